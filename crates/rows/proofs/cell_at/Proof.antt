@@ -1,0 +1,17 @@
+use mathlib.Core.Path.{_∙_}
+use lib.Dec.{lit≤}
+use Rattle.rows.specs.Rows.{cellOf}
+use Rattle.rows.proofs.Rows.{field}
+use borrow.Author.Needs.{needs}
+use Rattle.rows.proofs.cell_at.Statement.{statement}
+use Rattle.rows.proofs.cell_at.Tie as tie
+
+returns : tie.Need-returns
+unfolding cellOf
+returns c =
+    let a = c .before .before .args in
+    c .u16-at .ensures ∙ field 4 2 24 (a .i) (a .rows .now) (lit≤ tt)
+
+pub cell-at-spec : {M : Type 1} → statement M
+cell-at-spec = tie.close (tie.spec
+    (λ c. search needs) (λ c. search needs) (λ c κs. search needs) returns)

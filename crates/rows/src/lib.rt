@@ -1,0 +1,154 @@
+// Rows of fixed width in byte buffers: fields, new rows, a value replaced.
+ghost use mathlib.Core.Path.{_≡_};
+ghost use mathlib.Core.List.{[], _∷_, _++_};
+ghost use Prim.Native.Nat.{ℕ, _+_, _*_, _≤_, _<_};
+ghost use lib.ListN.{length, getD, set, replicate};
+ghost use Rattle.rows.specs.Rows.{part, spliced, number, bytesOf, dataRow, tagOf, cellOf, valueOf, withValue, commitRow, commitNumber, commitTag, rowAt, rowsIn, laid};
+
+fn wide(x: u8) -> u32
+    ensures { λ r. ⌜ (r ≡ x) × (r < 256) ⌝ }
+{
+    x as u32
+}
+
+// The little-endian number in the two bytes from index at.
+fn u16_at(s: &[u8], at: usize) -> u32
+    requires { ⌜ at + 2 ≤ length (now s) ⌝ }
+    ensures { λ r. ⌜ r ≡ number (part at 2 (now (s .entry))) ⌝ }
+{
+    wide(s[at]) + 256 * wide(s[at + 1])
+}
+
+// The little-endian number in the four bytes from index at.
+fn u32_at(s: &[u8], at: usize) -> u32
+    requires { ⌜ at + 4 ≤ length (now s) ⌝ }
+    ensures { λ r. ⌜ r ≡ number (part at 4 (now (s .entry))) ⌝ }
+{
+    wide(s[at]) + 256 * (wide(s[at + 1]) + 256 * (wide(s[at + 2]) + 256 * wide(s[at + 3])))
+}
+
+// Stores x in the four bytes from index at, lowest first.
+fn put_u32(s: &mut [u8], at: usize, x: u32)
+    requires { ⌜ at + 4 ≤ length (now s) ⌝ }
+    ensures { λ _. ⌜ now (s .exit) ≡ spliced at (bytesOf 4 x) (now (s .entry)) ⌝ }
+{
+    s[at] = (x % 256) as u8;
+    s[at + 1] = (x / 256 % 256) as u8;
+    s[at + 2] = (x / 256 / 256 % 256) as u8;
+    s[at + 3] = (x / 256 / 256 / 256 % 256) as u8;
+}
+
+// Copies all of src into dst from index at.
+fn copy_at(dst: &mut [u8], at: usize, src: &[u8])
+    requires { ⌜ at + length (now src) ≤ length (now dst) ⌝ }
+    ensures { λ _. ⌜ now (dst .exit) ≡ spliced at (now (src .entry)) (now (dst .entry)) ⌝ }
+{
+    let mut i = 0;
+    while i < src.len() {
+        dst[at + i] = src[i];
+        i += 1;
+    }
+}
+
+// Makes every byte zero.
+pub fn clear(buf: &mut [u8])
+    ensures { λ _. ⌜ now (buf .exit) ≡ replicate (length (now (buf .entry))) 0 ⌝ }
+{
+    let mut i = 0;
+    while i < buf.len() {
+        buf[i] = 0;
+        i += 1;
+    }
+}
+
+// ---- fields of row i
+
+pub fn tag_at(rows: &[u8], i: usize) -> u32
+    requires { ⌜ 24 * i + 24 ≤ length (now rows) ⌝ }
+    ensures { λ r. ⌜ r ≡ tagOf (rowAt 24 i (now (rows .entry))) ⌝ }
+{
+    u32_at(rows, 24 * i)
+}
+
+pub fn cell_at(rows: &[u8], i: usize) -> u32
+    requires { ⌜ 24 * i + 24 ≤ length (now rows) ⌝ }
+    ensures { λ r. ⌜ r ≡ cellOf (rowAt 24 i (now (rows .entry))) ⌝ }
+{
+    u16_at(rows, 24 * i + 4)
+}
+
+// The value, as it stands in the buffer.
+pub fn value_at<'a>(rows: &'a [u8], i: usize) -> &'a [u8]
+    requires { ⌜ 24 * i + 24 ≤ length (now rows) ⌝ }
+    ensures { λ r. ⌜ now r ≡ valueOf (rowAt 24 i (now (rows .entry))) ⌝ }
+{
+    let from = 24 * i + 8;
+    let end = from + 16;
+    &rows[from..end]
+}
+
+pub fn commit_number_at(commits: &[u8], i: usize) -> u32
+    requires { ⌜ 8 * i + 8 ≤ length (now commits) ⌝ }
+    ensures { λ r. ⌜ r ≡ commitNumber (rowAt 8 i (now (commits .entry))) ⌝ }
+{
+    u32_at(commits, 8 * i)
+}
+
+pub fn commit_tag_at(commits: &[u8], i: usize) -> u32
+    requires { ⌜ 8 * i + 8 ≤ length (now commits) ⌝ }
+    ensures { λ r. ⌜ r ≡ commitTag (rowAt 8 i (now (commits .entry))) ⌝ }
+{
+    u32_at(commits, 8 * i + 4)
+}
+
+// ---- new rows
+
+// Writes one data row into the first 24 bytes.
+fn write_row(row: &mut [u8], tag: u32, cell: u32, value: &[u8])
+    requires { ⌜ 24 ≤ length (now row) ⌝ }
+    requires { ⌜ cell < 65536 ⌝ }
+    requires { ⌜ length (now value) ≡ 16 ⌝ }
+    ensures { λ _. ⌜ now (row .exit) ≡ spliced 0 (dataRow tag cell (now (value .entry))) (now (row .entry)) ⌝ }
+{
+    put_u32(row, 0, tag);
+    put_u32(row, 4, cell);
+    copy_at(row, 8, value);
+}
+
+// Writes a data row directly behind the used ones: the part from the used end is lent on.
+pub fn append_row(rows: &mut [u8], used: usize, tag: u32, cell: u32, value: &[u8])
+    requires { ⌜ 24 * used + 24 ≤ length (now rows) ⌝ }
+    requires { ⌜ cell < 65536 ⌝ }
+    requires { ⌜ length (now value) ≡ 16 ⌝ }
+    ensures { λ _. ⌜ now (rows .exit) ≡ laid 24 used (rowsIn 24 used (now (rows .entry)) ++ (dataRow tag cell (now (value .entry)) ∷ [])) (now (rows .entry)) ⌝ }
+{
+    let end = 24 * used;
+    write_row(&mut rows[end..], tag, cell, value);
+}
+
+// Writes one committed row into the first 8 bytes.
+fn write_commit(row: &mut [u8], number: u32, tag: u32)
+    requires { ⌜ 8 ≤ length (now row) ⌝ }
+    ensures { λ _. ⌜ now (row .exit) ≡ spliced 0 (commitRow number tag) (now (row .entry)) ⌝ }
+{
+    put_u32(row, 0, number);
+    put_u32(row, 4, tag);
+}
+
+// Writes a committed row directly behind the used ones, in the same way.
+pub fn append_commit(commits: &mut [u8], used: usize, number: u32, tag: u32)
+    requires { ⌜ 8 * used + 8 ≤ length (now commits) ⌝ }
+    ensures { λ _. ⌜ now (commits .exit) ≡ laid 8 used (rowsIn 8 used (now (commits .entry)) ++ (commitRow number tag ∷ [])) (now (commits .entry)) ⌝ }
+{
+    let end = 8 * used;
+    write_commit(&mut commits[end..], number, tag);
+}
+
+// Replaces the value of data row i, whatever number of rows is in use.
+pub fn replace_value(rows: &mut [u8], i: usize, value: &[u8])
+    requires { ⌜ 24 * i + 24 ≤ length (now rows) ⌝ }
+    requires { ⌜ length (now value) ≡ 16 ⌝ }
+    ensures { λ _. ⌜ ((n : ℕ) → i < n → 24 * n ≤ length (now (rows .entry)) → now (rows .exit) ≡ laid 24 n (set (rowsIn 24 n (now (rows .entry))) i (withValue (now (value .entry)) (getD (rowsIn 24 n (now (rows .entry))) i []))) (now (rows .entry))) ⌝ }
+{
+    copy_at(rows, 24 * i + 8, value);
+}
