@@ -1,0 +1,32 @@
+-- `record::strikes`: three tests, in the definition's order.
+-- Assumes nothing.
+use Prim.Native.Nat.{_-_}
+use borrow.Author.Needs.{needs}
+use borrow.Author.Tests.{lt-ltb, le-ltb, not-true, not-false}
+use Rattle.spec.specs.Steps.{struck}
+use Rattle.record.proofs.strikes.Statement.{statement}
+use Rattle.record.proofs.strikes.Tie as tie
+
+-- Assumes nothing.
+
+in-queue-requires : tie.Need-in-queue-requires
+in-queue-requires c κs = search needs
+
+returns : tie.Need-returns
+unfolding struck
+returns c = rw (← c .before .in-queue .ensures, not-true (c .before .in-queue .result) (c .if1 .taken))
+
+returns-2 : tie.Need-returns-2
+unfolding struck
+returns-2 c =
+    let q = c .before .before .before .in-queue in
+    rw (← q .ensures, not-false (q .result) (c .before .before .if1 .left), lt-ltb _ _ (c .if2 .taken))
+
+returns-3 : tie.Need-returns-3
+unfolding struck
+returns-3 c =
+    let q = c .before .before .before .in-queue in
+    rw (← q .ensures, not-false (q .result) (c .before .before .if1 .left), le-ltb _ _ (c .if2 .left))
+
+pub strikes-spec : {M : Type 1} → statement M
+strikes-spec = tie.close (tie.spec in-queue-requires returns returns-2 returns-3)

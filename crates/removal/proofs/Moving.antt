@@ -1,0 +1,279 @@
+-- The compaction. A row is moved down word by word: after k words the buffer is the old one with the first k words of the row put in at the
+-- new place. A loop moves the rows to be kept to the front: before row i, `to` rows stand at the front, what is still to come is what is kept
+-- of the rows from i on, and from row `to` on the bytes are the old ones. The rows before the first that goes stand where they were.
+-- Assumes nothing.
+use Prim.Native.Nat.{ℕ, zero, suc, _+_, _*_, _-_, _≤_, _<_}
+use mathlib.Core.Path.{_≡_, refl, sym, ap, _∙_}
+use mathlib.Core.List.{List, [], _∷_, _++_, append-assoc, append-nil, flatten}
+use mathlib.Core.Bool.{Bool, true, false}
+use lib.Dec.{eqb}
+use native.Mathlib.Nat.{add-zero, mul-zero, mul-suc, mul-le-mul-left}
+use native.Mathlib.Numerals.{add-one, towards-suc}
+use native.Mathlib.Omega.{arith}
+use borrow.Author.Count.{below-more}
+use borrow.Rule.Slice.PartMut.{putMid, post-is}
+use borrow.Author.Tests.{eq-eqb, ne-eqb, eqb-false}
+use lib.ListN.{length, set, take, drop, getD, replicate, length-append, length-drop, take-append-drop}
+use lib.Seq.{sets-eq, drop-cons, take-at, drop-at, take-add, length-take-le, drop-drop, getD-set-same, getD-set-other}
+use Rattle.sets.specs.Choice.{if_then_else_}
+use Rattle.rows.specs.Rows.{Row, part, spliced, rowAt, rowsIn, rowsFrom, laid, filter, tagOf, hasTag}
+use Rattle.rows.proofs.Bytes.{spliced-next, take-spliced, drop-spliced, length-spliced, drop-later}
+use Rattle.rows.proofs.Rows.{rows-start, rows-step, rows-end, row-inside, row-length, length-rows, rows-wide, filter-wide}
+use Rattle.rows.proofs.Laid.{laid-fewer, laid-same, rows-laid}
+use Rattle.removal.specs.Trim.{stays, inUse, trimmedRows, trimmedCommits}
+use Rattle.removal.specs.Kept.{keptFrom, otherTag, Flags, Left, Trimmed}
+
+-- ---- a word, and a row of words
+
+part-more : (k : ℕ) (s : List ℕ) (at : ℕ) → at < length s → part at (suc k) s ≡ getD s at 0 ∷ part (suc at) k s
+part-more k s at h = rw (drop-cons s at 0 h)
+
+part-eight : (s : List ℕ) (at : ℕ) → at + 8 ≤ length s
+    → part at 8 s ≡ getD s at 0 ∷ getD s (at + 1) 0 ∷ getD s (at + 2) 0 ∷ getD s (at + 3) 0 ∷ getD s (at + 4) 0 ∷ getD s (at + 5) 0 ∷ getD s (at + 6) 0 ∷ getD s (at + 7) 0 ∷ []
+part-eight s at h =
+    simp towards-suc
+    (part-more 7 s at (omega arith)
+    ∙ rw (
+      part-more 6 s (suc at) (omega arith),
+      part-more 5 s (suc (suc at)) (omega arith),
+      part-more 4 s (suc (suc (suc at))) (omega arith),
+      part-more 3 s (suc (suc (suc (suc at)))) (omega arith),
+      part-more 2 s (suc (suc (suc (suc (suc at))))) (omega arith),
+      part-more 1 s (suc (suc (suc (suc (suc (suc at)))))) (omega arith),
+      part-more 0 s (suc (suc (suc (suc (suc (suc (suc at))))))) (omega arith),
+    ))
+
+spliced-eight : (s : List ℕ) (at a b c d e f g h : ℕ) → at + 8 ≤ length s
+    → set (set (set (set (set (set (set (set s at a) (at + 1) b) (at + 2) c) (at + 3) d) (at + 4) e) (at + 5) f) (at + 6) g) (at + 7) h
+    ≡ spliced at (a ∷ b ∷ c ∷ d ∷ e ∷ f ∷ g ∷ h ∷ []) s
+unfolding spliced
+spliced-eight s at a b c d e f g h l = simp towards-suc (simp towards-suc at (sets-eq (a ∷ b ∷ c ∷ d ∷ e ∷ f ∷ g ∷ h ∷ []) s at l))
+
+-- eight reads, then eight stores
+pub word-moved : (s : List ℕ) (from to : ℕ) → from + 8 ≤ length s → to + 8 ≤ length s
+    → set (set (set (set (set (set (set (set s to (getD s from 0)) (to + 1) (getD s (from + 1) 0)) (to + 2) (getD s (from + 2) 0)) (to + 3) (getD s (from + 3) 0)) (to + 4) (getD s (from + 4) 0)) (to + 5) (getD s (from + 5) 0)) (to + 6) (getD s (from + 6) 0)) (to + 7) (getD s (from + 7) 0)
+    ≡ spliced to (part from 8 s) s
+word-moved s from to h l = rw (part-eight s from h) (spliced-eight s to _ _ _ _ _ _ _ _ l)
+
+-- a bytes of a row were moved down, and then m more
+pub moved-more : (s : List ℕ) (from to a m : ℕ) → to ≤ from → from + (a + m) ≤ length s
+    → spliced (to + a) (part (from + a) m (spliced to (part from a s) s)) (spliced to (part from a s) s) ≡ spliced to (part from (a + m) s) s
+moved-more s from to a m h l =
+    let u : List ℕ = part from a s in
+    let wide : length u ≡ a = length-take-le a (drop from s) (simp length-drop (omega arith)) in
+    let next : to + length u ≡ to + a = rw wide in
+    let same : drop (from + a) (spliced to u s) ≡ drop (from + a) s =
+    drop-later (to + a) (from + a) (spliced to u s) s (omega arith) (drop-spliced to u s (to + a) next (omega arith)) in
+    let joined : u ++ part (from + a) m s ≡ part from (a + m) s = rw (take-add a m (drop from s), drop-drop) in
+    rw same (spliced-next s u (part (from + a) m s) to (to + a) next (omega arith) ∙ ap (λ (v : List ℕ). spliced to v s) joined)
+
+pub moved-none : (s : List ℕ) (from to : ℕ) → s ≡ spliced to (part from 0 s) s
+unfolding spliced
+moved-none s from to = rw (append-nil (take to s), add-zero to) (sym (take-append-drop to s))
+
+-- a row that is moved to where it is
+in-place : (at n : ℕ) (s : List ℕ) → at + n ≤ length s → spliced at (part at n s) s ≡ s
+unfolding spliced
+in-place at n s h =
+    let wide : length (part at n s) ≡ n = length-take-le n (drop at s) (simp length-drop (omega arith)) in
+    rw (wide, ← take-add at n s) (take-append-drop (at + n) s)
+
+-- ---- keptFrom
+
+module _ (flags : List ℕ) (w n i : ℕ) (s : List ℕ) where
+  kept-none : i < n → getD flags i 0 ≡ 0 → keptFrom flags i (rowsFrom w n i s) ≡ keptFrom flags (i + 1) (rowsFrom w n (i + 1) s)
+  unfolding keptFrom
+  kept-none h e = rw (rows-step w n i s h, eq-eqb _ _ e)
+
+  kept-one : i < n → (getD flags i 0 ≡ 0 → ⊥) → keptFrom flags i (rowsFrom w n i s) ≡ rowAt w i s ∷ keptFrom flags (i + 1) (rowsFrom w n (i + 1) s)
+  unfolding keptFrom
+  kept-one h e = rw (rows-step w n i s h, ne-eqb _ _ e)
+
+  kept-end : n ≤ i → keptFrom flags i (rowsFrom w n i s) ≡ []
+  unfolding keptFrom
+  kept-end h = rw (rows-end w n i s h)
+
+row-same : (w i : ℕ) (x y : List ℕ) → drop (w * i) x ≡ drop (w * i) y → part (w * i) w x ≡ rowAt w i y
+unfolding rowAt
+row-same w i x y e = ap (take w) e
+
+-- after the first i of n rows of s, `to` rows are kept, at the front of buf
+pub record Moving (flags : List ℕ) (w n : ℕ) (s buf : List ℕ) (to i : ℕ) : Type 0 where
+  pub last : i ≤ n
+  pub fewer : to ≤ i
+  pub size : length buf ≡ length s
+  pub count : to + length (keptFrom flags i (rowsFrom w n i s)) ≡ length (keptFrom flags 0 (rowsIn w n s))
+  pub front : take (w * to) buf ++ flatten (keptFrom flags i (rowsFrom w n i s)) ≡ flatten (keptFrom flags 0 (rowsIn w n s))
+  pub rest : drop (w * to) buf ≡ drop (w * to) s
+
+module _ (flags : List ℕ) (w n : ℕ) (s : List ℕ) where
+  pub moving-skip : (buf : List ℕ) (to i : ℕ) → i < n → getD flags i 0 ≡ 0 → Moving flags w n s buf to i → Moving flags w n s buf to (i + 1)
+  moving-skip buf to i h e m =
+      record {
+        last = omega arith;
+        fewer = omega arith;
+        size = m .size;
+        count = rw (← kept-none flags w n i s h e) (m .count);
+        front = rw (← kept-none flags w n i s h e) (m .front);
+        rest = m .rest;
+      }
+
+  module _ (l : w * n ≤ length s) where
+    pub moving-keep : (buf : List ℕ) (to i : ℕ) → i < n → (getD flags i 0 ≡ 0 → ⊥) → Moving flags w n s buf to i
+        → Moving flags w n s (spliced (w * to) (part (w * i) w buf) buf) (to + 1) (i + 1)
+    unfolding flatten
+    moving-keep buf to i h e m =
+        let inside : w * i + w ≤ length s = row-inside w i n (length s) h l in
+        let low : w * to ≤ w * i = mul-le-mul-left w (m .fewer) in
+        let row : part (w * i) w buf ≡ rowAt w i s = row-same w i buf s (drop-later (w * to) (w * i) buf s low (m .rest)) in
+        let wide : length (rowAt w i s) ≡ w = row-length w i s inside in
+        let next : w * to + length (rowAt w i s) ≡ w * (to + 1) = rw (wide, add-one, mul-suc) in
+        let room : w * (to + 1) ≤ length buf = omega arith in
+        let k = kept-one flags w n i s h e in
+        record {
+          last = omega arith;
+          fewer = omega arith;
+          size = rw row (length-spliced (w * to) (rowAt w i s) buf (w * (to + 1)) next room ∙ m .size);
+          count = omega (arith, m .count, ap length k);
+          front = rw (row, take-spliced (w * to) (rowAt w i s) buf (w * (to + 1)) next room, append-assoc) (rw k at (m .front));
+          rest = rw (row, drop-spliced (w * to) (rowAt w i s) buf (w * (to + 1)) next room) (drop-later (w * to) (w * (to + 1)) buf s (omega arith) (m .rest));
+        }
+
+    -- the rows before the first that goes
+    pub moving-start : (first : ℕ) → first ≤ n → ((k : ℕ) → k < first → getD flags k 0 ≡ 0 → ⊥) → Moving flags w n s s first first
+    moving-start zero h stay =
+        record {
+          last = omega arith;
+          fewer = omega arith;
+          size = refl;
+          count = rw (← rows-start w n s) (omega arith);
+          front = rw (← rows-start w n s, mul-zero);
+          rest = refl;
+        }
+    moving-start (suc i) h stay =
+        let m = moving-start i (omega arith) (λ k g. stay k (omega arith)) in
+        let next = moving-keep s i i (omega arith) (stay i (omega arith)) m in
+        rw (in-place (w * i) w s (row-inside w i n (length s) (omega arith) l), add-one i) at next
+
+    pub moving-end : (buf : List ℕ) (to i : ℕ) → n ≤ i → Moving flags w n s buf to i
+        → (to ≡ length (keptFrom flags 0 (rowsIn w n s))) × (buf ≡ flatten (keptFrom flags 0 (rowsIn w n s)) ++ drop (w * to) s)
+    unfolding flatten
+    moving-end buf to i h m =
+        let k = kept-end flags w n i s h in
+        let f : take (w * to) buf ≡ flatten (keptFrom flags 0 (rowsIn w n s)) = sym (append-nil (take (w * to) buf)) ∙ (rw k at (m .front)) in
+        (omega (arith, m .count, ap length k), rw (← f, ← m .rest) (sym (take-append-drop (w * to) buf)))
+
+-- ---- what is left is no more than what there was
+
+kept-fewer : (flags : List ℕ) (i : ℕ) (rs : List Row) → length (keptFrom flags i rs) ≤ length rs
+unfolding keptFrom
+kept-fewer flags i [] = omega arith
+kept-fewer flags i (r ∷ rs) = by-flag (eqb (getD flags i 0) 0) (kept-fewer flags (i + 1) rs)
+  where
+    by-flag : (b : Bool) → length (keptFrom flags (i + 1) rs) ≤ length rs
+        → length (if b then keptFrom flags (i + 1) rs else (r ∷ keptFrom flags (i + 1) rs)) ≤ suc (length rs)
+    by-flag true h = omega arith
+    by-flag false h = omega arith
+
+pub kept-at-most : (flags : List ℕ) (w n : ℕ) (s : List ℕ) → length (keptFrom flags 0 (rowsIn w n s)) ≤ n
+kept-at-most flags w n s = omega (arith, kept-fewer flags 0 (rowsIn w n s), length-rows w n s)
+
+-- the places of row i and of the row that it becomes lie within the buffer
+pub moving-room : (flags : List ℕ) (w n : ℕ) (s buf : List ℕ) (to i : ℕ) → w * n ≤ length s → i < n → Moving flags w n s buf to i
+    → (w * to ≤ w * i) × (w * i + w ≤ length buf)
+moving-room flags w n s buf to i l h m = (mul-le-mul-left w (m .fewer), omega (arith, row-inside w i n (length s) h l))
+
+-- the freed part lies within the buffer
+pub closing : (flags : List ℕ) (w n : ℕ) (s : List ℕ) (r : ℕ) → 0 < n → r ≡ length (keptFrom flags 0 (rowsIn w n s)) → (r ≤ n) × (w * r ≤ w * n) × (w ≤ w * n)
+closing flags w n s r h e =
+    let few : r ≤ n = omega (arith, kept-at-most flags w n s) in
+    let one : w * 1 ≤ w * n = mul-le-mul-left w h in
+    (few, mul-le-mul-left w few, omega arith)
+
+-- the freed part, cleared
+pub closed : (w n r : ℕ) (kept : List Row) (s buf : List ℕ) → r ≡ length kept → r ≤ n → w * n ≤ length s → buf ≡ flatten kept ++ drop (w * r) s → length buf ≡ length s
+    → putMid (w * r) (w * n - w * r) buf (replicate (length (part (w * r) (w * n - w * r) buf)) 0) ≡ laid w n kept s
+closed w n r kept s buf e g l f q =
+    let low : w * r ≤ w * n = mul-le-mul-left w g in
+    let front : length (flatten kept) ≡ w * r = omega (arith, length-append (flatten kept) (drop (w * r) s), ap length f, length-drop (w * r) s) in
+    let size : length (part (w * r) (w * n - w * r) buf) ≡ w * n - w * r =
+    length-take-le (w * n - w * r) (drop (w * r) buf) (simp length-drop (omega arith)) in
+    let t : take (w * r) buf ≡ flatten kept = rw f (take-at (flatten kept) (drop (w * r) s) (w * r) front) in
+    let d : drop (w * r) buf ≡ drop (w * r) s = rw f (drop-at (flatten kept) (drop (w * r) s) (w * r) front) in
+    rw (size, t, post-is (w * r) (w * n) buf low, drop-later (w * r) (w * n) buf s low d, laid-fewer w n kept s (omega arith), ← e, append-assoc)
+
+-- ---- flags
+
+-- the flag of a row that passes is not 0
+pub flag-stays : (p : Row → Bool) (flags : List ℕ) (w n : ℕ) (s : List ℕ) (k : ℕ) → Flags p w n s flags → k < n → p (rowAt w k s) ≡ true → getD flags k 0 ≡ 0 → ⊥
+flag-stays p flags w n s k h l e z = eqb-false 1 0 refl (sym (h .each k l ∙ rw e) ∙ z)
+
+-- flags that were made by a test keep the rows that pass it
+pub kept-where : (p : Row → Bool) (flags : List ℕ) (w n : ℕ) (s : List ℕ) → Flags p w n s flags → keptFrom flags 0 (rowsIn w n s) ≡ filter p (rowsIn w n s)
+unfolding filter keptFrom
+kept-where p flags w n s h = rw (rows-start w n s) (from n 0 (omega arith))
+  where
+    step : (b : Bool) (i : ℕ) → p (rowAt w i s) ≡ b → i < n
+        → keptFrom flags (i + 1) (rowsFrom w n (i + 1) s) ≡ filter p (rowsFrom w n (i + 1) s)
+        → keptFrom flags i (rowsFrom w n i s) ≡ filter p (rowsFrom w n i s)
+    step true i e l ih = kept-one flags w n i s l (flag-stays p flags w n s i h l e) ∙ rw (rows-step w n i s l, e, ih)
+    step false i e l ih = kept-none flags w n i s l (h .each i l ∙ rw e) ∙ rw (rows-step w n i s l, e, ih)
+
+    from : (m i : ℕ) → m + i ≡ n → keptFrom flags i (rowsFrom w n i s) ≡ filter p (rowsFrom w n i s)
+    from zero i e = rw (rows-end w n i s (omega arith))
+    from (suc m) i e = step (p (rowAt w i s)) i refl (omega arith) (from m (i + 1) (omega arith))
+
+-- where no flag is 0 all rows stay
+pub kept-all : (flags : List ℕ) (w n : ℕ) (s : List ℕ) → ((k : ℕ) → k < n → getD flags k 0 ≡ 0 → ⊥) → keptFrom flags 0 (rowsIn w n s) ≡ rowsIn w n s
+unfolding keptFrom
+kept-all flags w n s h = rw (rows-start w n s) (from n 0 (omega arith))
+  where
+    from : (m i : ℕ) → m + i ≡ n → keptFrom flags i (rowsFrom w n i s) ≡ rowsFrom w n i s
+    from zero i e = rw (rows-end w n i s (omega arith))
+    from (suc m) i e = kept-one flags w n i s (omega arith) (h i (omega arith)) ∙ rw (from m (i + 1) (omega arith)) (sym (rows-step w n i s (omega arith)))
+
+-- where all rows pass all stay
+pub filter-all : (p : Row → Bool) (w n : ℕ) (s : List ℕ) → ((k : ℕ) → k < n → p (rowAt w k s) ≡ true) → filter p (rowsIn w n s) ≡ rowsIn w n s
+unfolding filter
+filter-all p w n s h = rw (rows-start w n s) (from n 0 (omega arith))
+  where
+    from : (m i : ℕ) → m + i ≡ n → filter p (rowsFrom w n i s) ≡ rowsFrom w n i s
+    from zero i e = rw (rows-end w n i s (omega arith))
+    from (suc m) i e = rw (rows-step w n i s (omega arith), h i (omega arith), from m (i + 1) (omega arith))
+
+pub left-all : (w n : ℕ) (s : List ℕ) (rs : List Row) → rs ≡ rowsIn w n s → Left w n rs s s n
+left-all w n s rs e = record { rows = rw e (sym (length-rows w n s)); bytes = rw e (sym (laid-same w n s)) }
+
+-- ---- the rows of other transactions
+
+pub other-no : (tag : ℕ) (r : Row) → tagOf r ≡ tag → otherTag tag r ≡ false
+unfolding otherTag hasTag
+other-no tag r e = rw (eq-eqb _ _ e)
+
+pub other-yes : (tag : ℕ) (r : Row) → (tagOf r ≡ tag → ⊥) → otherTag tag r ≡ true
+unfolding otherTag hasTag
+other-yes tag r e = rw (ne-eqb _ _ e)
+
+-- a loop that stores f k at each index k
+pub stored-more : (f : ℕ → ℕ) (l : List ℕ) (i v : ℕ) → i < length l → ((k : ℕ) → k < i → getD l k 0 ≡ f k) → v ≡ f i
+    → (k : ℕ) → k < i + 1 → getD (set l i v) k 0 ≡ f k
+stored-more f l i v h below e =
+    below-more _ i (λ k g. getD-set-other l i k v 0 (λ z. omega arith) ∙ below k g) (getD-set-same l i v 0 h ∙ e)
+
+-- ---- a trim: two removals, the second by what the first left
+
+pub trimmed : (low n m : ℕ) (s c flags marks s′ c′ : List ℕ) (n′ m′ : ℕ)
+    → 24 * n ≤ length s
+    → Flags (stays low (rowsIn 24 n s) (rowsIn 8 m c)) 24 n s flags
+    → Left 24 n (keptFrom flags 0 (rowsIn 24 n s)) s s′ n′
+    → Flags (inUse (rowsIn 24 n′ s′)) 8 m c marks
+    → Left 8 m (keptFrom marks 0 (rowsIn 8 m c)) c c′ m′
+    → Trimmed low n m s c s′ c′ n′ m′
+unfolding trimmedRows trimmedCommits
+trimmed low n m s c flags marks s′ c′ n′ m′ l f first g second =
+    let p : Row → Bool = stays low (rowsIn 24 n s) (rowsIn 8 m c) in
+    let left : List Row = filter p (rowsIn 24 n s) in
+    let one : Left 24 n left s s′ n′ = rw (kept-where p flags 24 n s f) at first in
+    let rows : rowsIn 24 n′ s′ ≡ left = rw (one .rows, one .bytes) (rows-laid 24 n left s (filter-wide 24 p (rowsIn 24 n s) (rows-wide 24 n s l))) in
+    let two : Left 8 m (filter (inUse (rowsIn 24 n′ s′)) (rowsIn 8 m c)) c c′ m′ = rw (kept-where (inUse (rowsIn 24 n′ s′)) marks 8 m c g) at second in
+    record { data-rows = one; commit-rows = rw rows at two }

@@ -1,0 +1,3 @@
+pub mod Trim
+pub mod Kept
+pub mod Newest

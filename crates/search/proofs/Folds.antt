@@ -1,0 +1,223 @@
+-- Folds over the rows from row i on: what a row that counts adds, that a row that does not count may be left out, and that past the last row there is nothing.
+-- Assumes nothing.
+use Prim.Native.Nat.{ℕ, suc, _+_, _-_, _≤_, _<_}
+use mathlib.Core.Path.{_≡_, refl, ap, _∙_}
+use mathlib.Core.Bool.{Bool, true, false, _||_}
+use mathlib.Core.List.{List, [], _∷_, _++_}
+use native.Mathlib.Omega.{arith}
+use lib.Dec.{eqb, ltb}
+use borrow.Author.Tests.{eq-eqb, ne-eqb, lt-ltb, le-ltb, ltb-true, ltb-false}
+use Rattle.sets.specs.Choice.{if_then_else_}
+use Rattle.rows.specs.Rows.{Row, tagOf, cellOf, hasTag, rowAt, rowsIn, rowsFrom}
+use Rattle.rows.proofs.Rows.{rows-step, rows-end, rows-last}
+use Rattle.search.specs.declared.Number.{Number}
+use Rattle.search.specs.declared.Number.the-variants.{Some, None}
+use Rattle.search.specs.declared.Found.the-variants.{At, Missing}
+use Rattle.search.specs.declared.Seen.{Seen}
+use Rattle.search.specs.declared.Seen.the-variants.{Version, Nothing}
+use Rattle.search.specs.Numbers.{lesser}
+use Rattle.search.specs.Look.{isOwn, find, newer, seenAt, newest}
+use Rattle.search.specs.Share.{any, count, wrote, cellsOf}
+
+-- ---- tests of a row
+
+pub own-yes : (tag cell : ℕ) (r : Row) → tagOf r ≡ tag → cellOf r ≡ cell → isOwn tag cell r ≡ true
+unfolding isOwn
+own-yes tag cell r e f = rw (eq-eqb _ _ e, eq-eqb _ _ f)
+
+pub own-other-tag : (tag cell : ℕ) (r : Row) → (tagOf r ≡ tag → ⊥) → isOwn tag cell r ≡ false
+unfolding isOwn
+own-other-tag tag cell r n = rw (ne-eqb _ _ n)
+
+pub own-tag : (tag cell : ℕ) (r : Row) → tagOf r ≡ tag → isOwn tag cell r ≡ eqb (cellOf r) cell
+unfolding isOwn
+own-tag tag cell r e = rw (eq-eqb _ _ e)
+
+pub own-other-cell : (tag cell : ℕ) (r : Row) → (cellOf r ≡ cell → ⊥) → isOwn tag cell r ≡ false
+unfolding isOwn
+own-other-cell tag cell r n = rw (ne-eqb _ _ n) (go (eqb (tagOf r) tag))
+  where
+    go : (t : Bool) → (if t then false else false) ≡ false
+    go true = refl
+    go false = refl
+
+pub tag-yes : (tag : ℕ) (r : Row) → tagOf r ≡ tag → hasTag tag r ≡ true
+unfolding hasTag
+tag-yes tag r e = eq-eqb _ _ e
+
+pub tag-no : (tag : ℕ) (r : Row) → (tagOf r ≡ tag → ⊥) → hasTag tag r ≡ false
+unfolding hasTag
+tag-no tag r n = ne-eqb _ _ n
+
+-- ---- folds by a test
+
+module _ (p : Row → Bool) (w n i : ℕ) (s : List ℕ) where
+  pub any-hit : i < n → p (rowAt w i s) ≡ true → any p (rowsFrom w n i s) ≡ true
+  unfolding any
+  any-hit h e = rw (rows-step w n i s h, e)
+
+  pub any-miss : i < n → p (rowAt w i s) ≡ false → any p (rowsFrom w n i s) ≡ any p (rowsFrom w n (i + 1) s)
+  unfolding any
+  any-miss h e = rw (rows-step w n i s h, e)
+
+  pub any-end : n ≤ i → any p (rowsFrom w n i s) ≡ false
+  unfolding any
+  any-end h = rw (rows-end w n i s h)
+
+  pub find-hit : i < n → p (rowAt w i s) ≡ true → find p i (rowsFrom w n i s) ≡ At i
+  unfolding find
+  find-hit h e = rw (rows-step w n i s h, e)
+
+  pub find-miss : i < n → p (rowAt w i s) ≡ false → find p i (rowsFrom w n i s) ≡ find p (i + 1) (rowsFrom w n (i + 1) s)
+  unfolding find
+  find-miss h e = rw (rows-step w n i s h, e)
+
+  pub find-end : n ≤ i → find p i (rowsFrom w n i s) ≡ Missing
+  unfolding find
+  find-end h = rw (rows-end w n i s h)
+
+  pub count-hit : i < n → p (rowAt w i s) ≡ true → count p (rowsFrom w n i s) ≡ 1 + count p (rowsFrom w n (i + 1) s)
+  unfolding count
+  count-hit h e = rw (rows-step w n i s h, e)
+
+  pub count-miss : i < n → p (rowAt w i s) ≡ false → count p (rowsFrom w n i s) ≡ count p (rowsFrom w n (i + 1) s)
+  unfolding count
+  count-miss h e = rw (rows-step w n i s h, e) (omega arith)
+
+  pub count-end : n ≤ i → count p (rowsFrom w n i s) ≡ 0
+  unfolding count
+  count-end h = rw (rows-end w n i s h)
+
+-- ---- the newest row
+
+module _ (f : Row → Number) (w n i : ℕ) (s : List ℕ) where
+  pub newest-step : i < n → newest f i (rowsFrom w n i s) ≡ newer (seenAt i (f (rowAt w i s))) (newest f (i + 1) (rowsFrom w n (i + 1) s))
+  unfolding newest
+  newest-step h = rw (rows-step w n i s h)
+
+  pub newest-miss : i < n → f (rowAt w i s) ≡ None → newest f i (rowsFrom w n i s) ≡ newest f (i + 1) (rowsFrom w n (i + 1) s)
+  unfolding newest newer seenAt
+  newest-miss h e = rw (rows-step w n i s h, e)
+
+  pub newest-end : n ≤ i → newest f i (rowsFrom w n i s) ≡ Nothing
+  unfolding newest
+  newest-end h = rw (rows-end w n i s h)
+
+-- ---- how many cells
+
+module _ (tag w n i : ℕ) (s : List ℕ) where
+  pub cells-hit : i < n → tagOf (rowAt w i s) ≡ tag
+      → cellsOf tag (rowsFrom w n i s) ≡ (if wrote (rowsFrom w n (i + 1) s) tag (cellOf (rowAt w i s)) then 0 else 1) + cellsOf tag (rowsFrom w n (i + 1) s)
+  unfolding cellsOf
+  cells-hit h e = rw (rows-step w n i s h, tag-yes tag (rowAt w i s) e)
+
+  -- a row adds at most one
+  pub last-one : (if wrote (rowsFrom w n (i + 1) s) tag (cellOf (rowAt w i s)) then 0 else 1) ≤ 1
+  last-one = go (wrote (rowsFrom w n (i + 1) s) tag (cellOf (rowAt w i s)))
+    where
+      go : (t : Bool) → (if t then 0 else 1) ≤ 1
+      go true = omega arith
+      go false = omega arith
+
+  pub cells-miss : i < n → (tagOf (rowAt w i s) ≡ tag → ⊥) → cellsOf tag (rowsFrom w n i s) ≡ cellsOf tag (rowsFrom w n (i + 1) s)
+  unfolding cellsOf
+  cells-miss h e = rw (rows-step w n i s h, tag-no tag (rowAt w i s) e) (omega arith)
+
+  pub cells-end : n ≤ i → cellsOf tag (rowsFrom w n i s) ≡ 0
+  unfolding cellsOf
+  cells-end h = rw (rows-end w n i s h)
+
+-- no more cells than rows
+pub cells-fewer : (tag : ℕ) (rs : List Row) → cellsOf tag rs ≤ count (hasTag tag) rs
+unfolding cellsOf count
+cells-fewer tag [] = omega arith
+cells-fewer tag (r ∷ rs) = go (hasTag tag r) (wrote rs tag (cellOf r)) (cells-fewer tag rs)
+  where
+    go : (t u : Bool) → cellsOf tag rs ≤ count (hasTag tag) rs
+        → (if t then (if u then 0 else 1) else 0) + cellsOf tag rs ≤ (if t then 1 else 0) + count (hasTag tag) rs
+    go true true h = omega arith
+    go true false h = omega arith
+    go false u h = omega arith
+
+-- ---- the newer of two, and the lesser of two, may be taken in any grouping
+
+pub newer-assoc : (a b c : Seen) → newer (newer a b) c ≡ newer a (newer b c)
+unfolding newer
+newer-assoc Nothing b c = refl
+newer-assoc (Version i m) Nothing c = refl
+newer-assoc (Version i m) (Version j n) Nothing = go (ltb m n)
+  where
+    go : (t : Bool) → newer (if t then Version j n else Version i m) Nothing ≡ (if t then Version j n else Version i m)
+    go true = refl
+    go false = refl
+newer-assoc (Version i m) (Version j n) (Version k o) = go (ltb m n) (ltb n o) refl refl
+  where
+    go : (t u : Bool) → ltb m n ≡ t → ltb n o ≡ u → newer (if t then Version j n else Version i m) (Version k o) ≡ newer (Version i m) (if u then Version k o else Version j n)
+    go true true e f = rw (f, lt-ltb m o (omega (arith, ltb-true m n e, ltb-true n o f)))
+    go true false e f = rw (f, e)
+    go false true e f = refl
+    go false false e f = rw (e, le-ltb m o (omega (arith, ltb-false m n e, ltb-false n o f)))
+
+pub newer-none : (a : Seen) → newer a Nothing ≡ a
+unfolding newer
+newer-none Nothing = refl
+newer-none (Version i n) = refl
+
+pub lesser-assoc : (a b c : Number) → lesser (lesser a b) c ≡ lesser a (lesser b c)
+unfolding lesser
+lesser-assoc None b c = refl
+lesser-assoc (Some m) None c = refl
+lesser-assoc (Some m) (Some n) None = go (ltb n m)
+  where
+    go : (t : Bool) → lesser (if t then Some n else Some m) None ≡ (if t then Some n else Some m)
+    go true = refl
+    go false = refl
+lesser-assoc (Some m) (Some n) (Some o) = go (ltb n m) (ltb o n) refl refl
+  where
+    go : (t u : Bool) → ltb n m ≡ t → ltb o n ≡ u → lesser (if t then Some n else Some m) (Some o) ≡ lesser (Some m) (if u then Some o else Some n)
+    go true true e f = rw (f, lt-ltb o m (omega (arith, ltb-true n m e, ltb-true o n f)))
+    go true false e f = rw (f, e)
+    go false true e f = refl
+    go false false e f = rw (e, le-ltb o m (omega (arith, ltb-false n m e, ltb-false o n f)))
+
+pub lesser-none : (a : Number) → lesser a None ≡ a
+unfolding lesser
+lesser-none None = refl
+lesser-none (Some n) = refl
+
+-- ---- whether the transaction wrote a cell
+
+module _ (tag cell w n i : ℕ) (s : List ℕ) where
+  pub wrote-hit : i < n → tagOf (rowAt w i s) ≡ tag → wrote (rowsFrom w n i s) tag cell ≡ (if eqb (cellOf (rowAt w i s)) cell then true else wrote (rowsFrom w n (i + 1) s) tag cell)
+  unfolding wrote any
+  wrote-hit h e = rw (rows-step w n i s h, own-tag tag cell (rowAt w i s) e)
+
+  pub wrote-miss : i < n → (tagOf (rowAt w i s) ≡ tag → ⊥) → wrote (rowsFrom w n i s) tag cell ≡ wrote (rowsFrom w n (i + 1) s) tag cell
+  unfolding wrote
+  wrote-miss h e = any-miss (isOwn tag cell) w n i s h (own-other-tag tag cell (rowAt w i s) e)
+
+  pub wrote-end : n ≤ i → wrote (rowsFrom w n i s) tag cell ≡ false
+  unfolding wrote
+  wrote-end h = any-end (isOwn tag cell) w n i s h
+
+-- ---- a search from the end
+
+any-append : (p : Row → Bool) (xs ys : List Row) → any p (xs ++ ys) ≡ (any p xs || any p ys)
+unfolding any
+any-append p [] ys = refl
+any-append p (x ∷ xs) ys = go (p x) (any-append p xs ys)
+  where
+    go : (t : Bool) → any p (xs ++ ys) ≡ (any p xs || any p ys) → (if t then true else any p (xs ++ ys)) ≡ ((if t then true else any p xs) || any p ys)
+    go true h = refl
+    go false h = h
+
+alone : (t : Bool) → (if t then true else false) ≡ t
+alone true = refl
+alone false = refl
+
+pub any-last : (p : Row → Bool) (w i : ℕ) (s : List ℕ) → 0 < i → any p (rowsIn w i s) ≡ (any p (rowsIn w (i - 1) s) || p (rowAt w (i - 1) s))
+unfolding any
+any-last p w i s h =
+    let e : i ≡ suc (i - 1) = omega arith in
+    ap (λ (n : ℕ). any p (rowsIn w n s)) e
+    ∙ rw (rows-last w (i - 1) s, any-append p (rowsIn w (i - 1) s) (rowAt w (i - 1) s ∷ []), alone (p (rowAt w (i - 1) s)))

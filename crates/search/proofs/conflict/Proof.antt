@@ -1,0 +1,57 @@
+-- `search::conflict`: the smallest of all rows is the lesser of the smallest so far and that of the rest; nothing where no commit is above the snapshot.
+use Prim.Native.Nat.{_<_, _-_}
+use mathlib.Core.Path.{_≡_, sym, _∙_}
+use mathlib.Core.Logic.{⊎-elim}
+use native.Mathlib.Omega.{arith}
+use borrow.Author.Needs.{needs}
+use borrow.Author.Tests.{not-true}
+use Rattle.rows.specs.Rows.{rowsIn}
+use Rattle.search.specs.Share.{conflict}
+use Rattle.search.proofs.Clashes.{conflict-none, clashRest, clash-start, clash-hit, clash-miss, clash-end}
+use Rattle.search.proofs.conflict.Statement.{statement}
+use Rattle.search.proofs.conflict.Tie as tie
+
+abbrev Inv-loop : tie.InvT-loop
+Inv-loop rows used commits entries tag snapshot marks best₀ i₀ best i =
+    conflict tag snapshot (rowsIn 24 used rows) (rowsIn 8 entries commits) ≡ clashRest tag snapshot used rows (rowsIn 8 entries commits) best i
+
+abbrev μ-loop : tie.MeasureT-loop
+μ-loop rows used commits entries tag snapshot marks best₀ i₀ best i = used - i
+
+returns : tie.Need-returns Inv-loop μ-loop
+returns c = sym (conflict-none _ _ _ _ (sym (c .before .any-above .ensures) ∙ not-true _ (c .if1 .taken)))
+
+loop-holds : tie.Need-loop-holds Inv-loop μ-loop
+loop-holds c = clash-start _ _ _ _ _
+
+has-written-requires : tie.Need-has-written-requires Inv-loop μ-loop
+has-written-requires c κs = (omega arith, c .before .before .before .before .cells-of .ensures)
+
+loop-again : tie.Need-loop-again Inv-loop μ-loop
+loop-again c =
+    let a = c .before .before .before .before .before .before .before .before .before .before .before .args in
+    let cs = rowsIn 8 (a .entries) (a .commits .now) in
+    let loop = c .before .before .before .before .before .loop in
+    let h : loop .i < a .used = omega arith in
+    loop .inv
+    ∙ ⊎-elim
+    (λ w. clash-hit (a .tag) (a .snapshot) (a .used) (a .rows .now) cs (loop .best) (loop .i) h
+    (rw (← c .before .before .cell-at .ensures, ← c .before .has-written .ensures) (w .0 .taken)) (c .if2 .best)
+    (w .5 ∙ w .4 .ensures ∙ rw (w .3 .ensures, w .2 .ensures, w .1 .ensures)))
+    (λ w. rw (w .1) (clash-miss (a .tag) (a .snapshot) (a .used) (a .rows .now) cs (loop .best) (loop .i) h
+    (rw (← c .before .before .cell-at .ensures, ← c .before .has-written .ensures) (w .0 .left))))
+    (c .if2 .came)
+
+returns-2 : tie.Need-returns-2 Inv-loop μ-loop
+returns-2 c =
+    let a = c .before .before .before .before .before .before .before .args in
+    let loop = c .before .loop in
+    sym (loop .inv ∙ clash-end (a .tag) (a .snapshot) (a .used) (a .rows .now) (rowsIn 8 (a .entries) (a .commits .now)) (loop .best) (loop .i) (c .loop-test .left))
+
+pub conflict-spec : {M : Type 1} → statement M
+conflict-spec =
+    tie.close
+    (tie.spec
+    Inv-loop μ-loop (λ c κs. search needs) returns (λ c κs. search needs) loop-holds (λ c κs. search needs)
+    has-written-requires (λ c κs. search needs) (λ c κs. search needs) (λ c κs. search needs) (λ c κs. search needs)
+    (λ c. search needs) (λ c. search needs) loop-again returns-2)

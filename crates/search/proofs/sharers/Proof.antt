@@ -1,0 +1,57 @@
+-- `search::sharers`: the members so far, and the queued clients that share a cell in the rest of the rows, are all that share one.
+use Prim.Native.Nat.{_<_, _-_, _^_}
+use mathlib.Core.Logic.{⊎-elim}
+use native.Mathlib.Omega.{arith}
+use borrow.Author.Needs.{needs}
+use Rattle.sets.specs.Set.{clients}
+use Rattle.search.proofs.Sharing.{Shared, share-none, share-start, share-hit, share-miss, share-end}
+use Rattle.search.proofs.sharers.Statement.{statement}
+use Rattle.search.proofs.sharers.Tie as tie
+
+abbrev Inv-loop : tie.InvT-loop
+Inv-loop rows used tag numbers queued marks found₀ i₀ found i = (found < 2 ^ clients) × Shared tag queued used rows numbers found i
+
+abbrev μ-loop : tie.MeasureT-loop
+μ-loop rows used tag numbers queued marks found₀ i₀ found i = used - i
+
+returns : tie.Need-returns Inv-loop μ-loop
+returns c = rw (c .if1 .taken) (share-none _)
+
+loop-holds : tie.Need-loop-holds Inv-loop μ-loop
+loop-holds c = (omega arith, share-start _ _ _ _ _)
+
+has-written-requires : tie.Need-has-written-requires Inv-loop μ-loop
+has-written-requires c κs = (omega arith, c .before .before .before .before .cells-of .ensures)
+
+loop-again : tie.Need-loop-again Inv-loop μ-loop
+loop-again c =
+    let a = c .before .before .before .before .before .before .before .before .before .args in
+    let loop = c .before .before .before .before .before .loop in
+    let h : loop .i < a .used = omega arith in
+    ⊎-elim
+    (λ w. (
+      omega (arith, w .2 .ok, w .3),
+      share-hit (a .tag) (a .queued) (a .used) (a .rows .now) (a .numbers .now) (loop .found) (loop .i) (loop .inv .1) h
+          (rw (← c .before .before .cell-at .ensures, ← c .before .has-written .ensures) (w .0 .taken)) (c .if2 .found)
+          (λ j. rw (w .3, ← w .1 .ensures) (w .2 .ensures j)),
+    ))
+    (λ w. rw (w .1) (
+      loop .inv .0,
+      share-miss (a .tag) (a .queued) (a .used) (a .rows .now) (a .numbers .now) (loop .found) (loop .i) (loop .inv .1) h
+          (rw (← c .before .before .cell-at .ensures, ← c .before .has-written .ensures) (w .0 .left)),
+    ))
+    (c .if2 .came)
+
+returns-2 : tie.Need-returns-2 Inv-loop μ-loop
+returns-2 c =
+    let start = c .before .before .before .before .before in
+    let a = start .args in
+    let loop = c .before .loop in
+    share-end (a .tag) (a .queued) (a .used) (a .rows .now) (a .numbers .now) (loop .found) (loop .i) (loop .inv .1) (c .loop-test .left) (start .fits .queued .fits) (loop .inv .0)
+
+pub sharers-spec : {M : Type 1} → statement M
+sharers-spec =
+    tie.close
+    (tie.spec
+    Inv-loop μ-loop returns (λ c κs. search needs) loop-holds (λ c κs. search needs) has-written-requires
+    (λ c κs. search needs) (λ c κs. search needs) (λ c. search needs) (λ c. search needs) loop-again returns-2)

@@ -1,0 +1,4 @@
+pub mod Numbers
+pub mod Look
+pub mod Share
+pub mod Passes

@@ -1,0 +1,402 @@
+// Searches over the rows of both buffers.
+ghost use mathlib.Core.Path.{_≡_};
+ghost use mathlib.Core.Bool.{Bool, true, _&&_, _||_};
+ghost use Prim.Native.Nat.{ℕ, _+_, _*_, _≤_, _<_};
+ghost use lib.Dec.{eqb, ltb};
+ghost use lib.ListN.{length, getD, set};
+ghost use Rattle.sets.specs.Set.{clients, member, insert, collect};
+ghost use Rattle.sets.specs.Choice.{if_then_else_};
+ghost use Rattle.rows.specs.Rows.{rowAt, rowsIn, rowsFrom, tagOf, cellOf, commitNumber, hasTag};
+ghost use Rattle.search.specs.Numbers.{lesser, above, upTo};
+ghost use Rattle.search.specs.Look.{commitOf, isOwn, find, newer, seenAt, lookFor, valueIn};
+ghost use Rattle.search.specs.Share.{any, count, wrote, rowOrCount, cellsOf, shares, conflict};
+ghost use Rattle.search.specs.Passes.{Next, Marked};
+use sets::CLIENTS;
+use sets::Set;
+
+// A number, if there is one.
+pub enum Number {
+    Some(u32),
+    None,
+}
+
+// Where a row is, if there is one.
+pub enum Found {
+    At(usize),
+    Missing,
+}
+
+// A data row and the number it is committed under (0 for an own write), if there is one.
+pub enum Seen {
+    Version { at: usize, number: u32 },
+    Nothing,
+}
+
+// The row of a transaction for a cell, or how many rows it has where there is none.
+pub enum Own {
+    Row(usize),
+    Rows(usize),
+}
+
+// ---- the passes: the next row, from row from on, with a tag or a cell; used where there is none
+
+pub fn next_tag(rows: &[u8], from: usize, used: usize, tag: u32) -> usize
+    requires { ⌜ 24 * used ≤ length (now rows) ⌝ }
+    requires { ⌜ from ≤ used ⌝ }
+    ensures { λ r. ⌜ Next (λ k. tagOf (rowAt 24 k (now (rows .entry))) ≡ tag) from used r ⌝ }
+{
+    let mut i = from;
+    while i < used {
+        if rows::tag_at(rows, i) == tag {
+            return i;
+        }
+        i += 1;
+    }
+    used
+}
+
+pub fn next_cell(rows: &[u8], from: usize, used: usize, cell: u32) -> usize
+    requires { ⌜ 24 * used ≤ length (now rows) ⌝ }
+    requires { ⌜ from ≤ used ⌝ }
+    ensures { λ r. ⌜ Next (λ k. cellOf (rowAt 24 k (now (rows .entry))) ≡ cell) from used r ⌝ }
+{
+    let mut i = from;
+    while i < used {
+        if rows::cell_at(rows, i) == cell {
+            return i;
+        }
+        i += 1;
+    }
+    used
+}
+
+// The number of the first committed row with that tag.
+pub fn commit_of(commits: &[u8], entries: usize, tag: u32) -> Number
+    requires { ⌜ 8 * entries ≤ length (now commits) ⌝ }
+    ensures { λ r. ⌜ r ≡ commitOf tag (rowsIn 8 entries (now (commits .entry))) ⌝ }
+{
+    let mut i = 0;
+    while i < entries {
+        if rows::commit_tag_at(commits, i) == tag {
+            return Number::Some(rows::commit_number_at(commits, i));
+        }
+        i += 1;
+    }
+    Number::None
+}
+
+// ---- Read
+
+fn up_to(snapshot: u32, number: Number) -> Number
+    ensures { λ r. ⌜ r ≡ upTo snapshot number ⌝ }
+{
+    match number {
+        Number::Some(n) => { if n <= snapshot { number } else { Number::None } }
+        Number::None => Number::None,
+    }
+}
+
+fn newer_version(best: Seen, i: usize, n: u32) -> Seen
+    ensures { λ r. ⌜ r ≡ newer best (Seen.Version i n) ⌝ }
+{
+    match best {
+        Seen::Version { at: _, number } => {
+            if number < n {
+                Seen::Version { at: i, number: n }
+            } else {
+                best
+            }
+        }
+        Seen::Nothing => Seen::Version { at: i, number: n },
+    }
+}
+
+// The better of what was seen before and row i under a number.
+fn newer_of(best: Seen, i: usize, number: Number) -> Seen
+    ensures { λ r. ⌜ r ≡ newer best (seenAt i number) ⌝ }
+{
+    match number {
+        Number::Some(n) => newer_version(best, i, n),
+        Number::None => best,
+    }
+}
+
+// The row that a read finds: the reader's own, else the visible one, in one pass.
+pub fn look_for(
+    rows: &[u8],
+    used: usize,
+    commits: &[u8],
+    entries: usize,
+    tag: u32,
+    cell: u32,
+    snapshot: u32,
+) -> Seen
+    requires { ⌜ 24 * used ≤ length (now rows) ⌝ }
+    requires { ⌜ 8 * entries ≤ length (now commits) ⌝ }
+    ensures { λ r. ⌜ r ≡ lookFor tag cell snapshot (rowsIn 24 used (now (rows .entry))) (rowsIn 8 entries (now (commits .entry))) ⌝ }
+{
+    let mut best = Seen::Nothing;
+    let mut i = next_cell(rows, 0, used, cell);
+    while i < used {
+        let writer = rows::tag_at(rows, i);
+        if writer == tag {
+            return Seen::Version { at: i, number: 0 };
+        }
+        let number = up_to(snapshot, commit_of(commits, entries, writer));
+        best = newer_of(best, i, number);
+        i = next_cell(rows, i + 1, used, cell);
+    }
+    best
+}
+
+// The sixteen bytes that a read finds, as they stand in the data buffer; none where the cell is unwritten.
+pub fn lookup<'a>(
+    rows: &'a [u8],
+    used: usize,
+    commits: &[u8],
+    entries: usize,
+    tag: u32,
+    cell: u32,
+    snapshot: u32,
+) -> &'a [u8]
+    requires { ⌜ 24 * used ≤ length (now rows) ⌝ }
+    requires { ⌜ 8 * entries ≤ length (now commits) ⌝ }
+    ensures { λ r. ⌜ now r ≡ valueIn (rowsIn 24 used (now (rows .entry))) (lookFor tag cell snapshot (rowsIn 24 used (now (rows .entry))) (rowsIn 8 entries (now (commits .entry)))) ⌝ }
+{
+    let seen = look_for(rows, used, commits, entries, tag, cell, snapshot);
+    match seen {
+        Seen::Version { at, number: _ } => rows::value_at(rows, at),
+        Seen::Nothing => &rows[0..0],
+    }
+}
+
+// ---- a transaction's own rows
+
+// Whether the transaction has a row, looked for from the end: an open transaction's rows are among the newest.
+pub fn has_rows(rows: &[u8], used: usize, tag: u32) -> bool
+    requires { ⌜ 24 * used ≤ length (now rows) ⌝ }
+    ensures { λ r. ⌜ r ≡ any (hasTag tag) (rowsIn 24 used (now (rows .entry))) ⌝ }
+{
+    let mut i = used;
+    while 0 < i {
+        i -= 1;
+        if rows::tag_at(rows, i) == tag {
+            return true;
+        }
+    }
+    false
+}
+
+// The transaction's row for a cell, or how many rows it has, in one pass.
+pub fn own_row(rows: &[u8], used: usize, tag: u32, cell: u32) -> Own
+    requires { ⌜ 24 * used ≤ length (now rows) ⌝ }
+    ensures { λ r. ⌜ r ≡ rowOrCount (find (isOwn tag cell) 0 (rowsIn 24 used (now (rows .entry)))) (count (hasTag tag) (rowsIn 24 used (now (rows .entry)))) ⌝ }
+{
+    let mut n: usize = 0;
+    let mut i = next_tag(rows, 0, used, tag);
+    while i < used {
+        if rows::cell_at(rows, i) == cell {
+            return Own::Row(i);
+        }
+        n += 1;
+        i = next_tag(rows, i + 1, used, tag);
+    }
+    Own::Rows(n)
+}
+
+// Whether the transaction wrote the cell, by its rows from row from on.
+fn wrote_from(rows: &[u8], from: usize, used: usize, tag: u32, cell: u32) -> bool
+    requires { ⌜ 24 * used ≤ length (now rows) ⌝ }
+    requires { ⌜ from ≤ used ⌝ }
+    ensures { λ r. ⌜ r ≡ wrote (rowsFrom 24 used from (now (rows .entry))) tag cell ⌝ }
+{
+    let mut i = next_tag(rows, from, used, tag);
+    while i < used {
+        if rows::cell_at(rows, i) == cell {
+            return true;
+        }
+        i = next_tag(rows, i + 1, used, tag);
+    }
+    false
+}
+
+// 1 if no later row of the transaction has row i's cell.
+fn last_of_cell(rows: &[u8], i: usize, used: usize, tag: u32) -> usize
+    requires { ⌜ 24 * used ≤ length (now rows) ⌝ }
+    requires { ⌜ i < used ⌝ }
+    ensures { λ r. ⌜ r ≡ (if wrote (rowsFrom 24 used (i + 1) (now (rows .entry))) tag (cellOf (rowAt 24 i (now (rows .entry)))) then 0 else 1) ⌝ }
+{
+    if wrote_from(rows, i + 1, used, tag, rows::cell_at(rows, i)) {
+        0
+    } else {
+        1
+    }
+}
+
+// How many cells the transaction wrote.
+pub fn count_cells(rows: &[u8], used: usize, tag: u32) -> usize
+    requires { ⌜ 24 * used ≤ length (now rows) ⌝ }
+    ensures { λ r. ⌜ r ≡ cellsOf tag (rowsIn 24 used (now (rows .entry))) ⌝ }
+{
+    let mut n: usize = 0;
+    let mut i = next_tag(rows, 0, used, tag);
+    while i < used {
+        n += last_of_cell(rows, i, used, tag);
+        i = next_tag(rows, i + 1, used, tag);
+    }
+    n
+}
+
+// ---- cells that a transaction wrote, and who shares one
+
+// Notes a cell below 1,024.
+fn mark(marks: &mut [u8; 1024], cell: u32)
+    ensures { λ _. ⌜ now (marks .exit) ≡ (if ltb cell 1024 then set (now (marks .entry)) cell 1 else now (marks .entry)) ⌝ }
+{
+    if cell < 1024 {
+        marks[cell as usize] = 1;
+    }
+}
+
+// For each cell below 1,024 whether the transaction wrote it.
+fn cells_of(rows: &[u8], used: usize, tag: u32) -> [u8; 1024]
+    requires { ⌜ 24 * used ≤ length (now rows) ⌝ }
+    ensures { λ r. ⌜ Marked r (rowsIn 24 used (now (rows .entry))) tag ⌝ }
+{
+    let mut marks = [0u8; 1024];
+    let mut i = next_tag(rows, 0, used, tag);
+    while i < used {
+        mark(&mut marks, rows::cell_at(rows, i));
+        i = next_tag(rows, i + 1, used, tag);
+    }
+    marks
+}
+
+// Whether the transaction wrote the cell, by its marks; cells above 1,023 are looked for in the rows.
+fn has_written(marks: &[u8; 1024], rows: &[u8], used: usize, tag: u32, cell: u32) -> bool
+    requires { ⌜ 24 * used ≤ length (now rows) ⌝ }
+    requires { ⌜ Marked (now marks) (rowsIn 24 used (now rows)) tag ⌝ }
+    ensures { λ r. ⌜ r ≡ wrote (rowsIn 24 used (now (rows .entry))) tag cell ⌝ }
+{
+    if cell < 1024 {
+        return marks[cell as usize] == 1;
+    }
+    wrote_from(rows, 0, used, tag, cell)
+}
+
+// The set, and the client if it is queued and its transaction has that number.
+fn with_writer(found: Set, queued: Set, client: u32, number: u32, tag: u32) -> Set
+    ensures { λ r. ⌜ r ≡ (if member queued client && eqb number tag then insert clients found client else found) ⌝ }
+{
+    if number == tag {
+        if sets::has(queued, client) {
+            return sets::with(found, client);
+        }
+    }
+    found
+}
+
+// The set, and those of the queued clients whose transaction has that number.
+fn with_writers(found: Set, queued: Set, numbers: &[u32; CLIENTS], tag: u32) -> Set
+    ensures { λ r. ⌜ ((j : ℕ) → member r j ≡ (member found j || (member queued j && eqb (getD (now (numbers .entry)) j 0) tag))) ⌝ }
+{
+    let mut out = found;
+    for i in 0..CLIENTS {
+        out = with_writer(out, queued, i as u32, numbers[i], tag);
+    }
+    out
+}
+
+// Those of the queued clients whose transactions share a cell with the transaction: one pass over the rows for all of them.
+pub fn sharers(rows: &[u8], used: usize, tag: u32, numbers: &[u32; CLIENTS], queued: Set) -> Set
+    requires { ⌜ 24 * used ≤ length (now rows) ⌝ }
+    ensures { λ r. ⌜ r ≡ collect (λ j. member queued j && shares (rowsIn 24 used (now (rows .entry))) tag (getD (now (numbers .entry)) j 0)) clients ⌝ }
+{
+    if queued == 0 {
+        return 0;
+    }
+    let marks = cells_of(rows, used, tag);
+    let mut found: Set = 0;
+    let mut i = 0;
+    while i < used {
+        if has_written(&marks, rows, used, tag, rows::cell_at(rows, i)) {
+            found = with_writers(found, queued, numbers, rows::tag_at(rows, i));
+        }
+        i += 1;
+    }
+    found
+}
+
+// ---- the check
+
+// Whether a committed row in use has a number above s.
+fn any_above(commits: &[u8], entries: usize, s: u32) -> bool
+    requires { ⌜ 8 * entries ≤ length (now commits) ⌝ }
+    ensures { λ r. ⌜ r ≡ any (λ c. ltb s (commitNumber c)) (rowsIn 8 entries (now (commits .entry))) ⌝ }
+{
+    let mut i = 0;
+    while i < entries {
+        if s < rows::commit_number_at(commits, i) {
+            return true;
+        }
+        i += 1;
+    }
+    false
+}
+
+fn above_of(snapshot: u32, number: Number) -> Number
+    ensures { λ r. ⌜ r ≡ above snapshot number ⌝ }
+{
+    match number {
+        Number::Some(n) => { if snapshot < n { number } else { Number::None } }
+        Number::None => Number::None,
+    }
+}
+
+fn lesser_than(m: u32, other: Number) -> Number
+    ensures { λ r. ⌜ r ≡ lesser (Number.Some m) other ⌝ }
+{
+    match other {
+        Number::Some(n) => { if n < m { other } else { Number::Some(m) } }
+        Number::None => Number::Some(m),
+    }
+}
+
+// The smaller of two numbers that may be missing.
+pub fn lesser_of(a: Number, b: Number) -> Number
+    ensures { λ r. ⌜ r ≡ lesser a b ⌝ }
+{
+    match a {
+        Number::Some(m) => lesser_than(m, b),
+        Number::None => b,
+    }
+}
+
+// The smallest commit number above the snapshot of a row whose cell the transaction wrote.
+pub fn conflict(
+    rows: &[u8],
+    used: usize,
+    commits: &[u8],
+    entries: usize,
+    tag: u32,
+    snapshot: u32,
+) -> Number
+    requires { ⌜ 24 * used ≤ length (now rows) ⌝ }
+    requires { ⌜ 8 * entries ≤ length (now commits) ⌝ }
+    ensures { λ r. ⌜ r ≡ conflict tag snapshot (rowsIn 24 used (now (rows .entry))) (rowsIn 8 entries (now (commits .entry))) ⌝ }
+{
+    if !any_above(commits, entries, snapshot) {
+        return Number::None;
+    }
+    let marks = cells_of(rows, used, tag);
+    let mut best = Number::None;
+    let mut i = 0;
+    while i < used {
+        if has_written(&marks, rows, used, tag, rows::cell_at(rows, i)) {
+            let number = commit_of(commits, entries, rows::tag_at(rows, i));
+            best = lesser_of(best, above_of(snapshot, number));
+        }
+        i += 1;
+    }
+    best
+}

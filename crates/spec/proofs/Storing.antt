@@ -1,0 +1,144 @@
+-- Write on an image is, by the view, what Took.antt says of it: the first row of the transaction and the cell has its value replaced, or a row
+-- goes in behind the last. The cell limit and the free rows decide only whether the call is refused.
+-- Assumes nothing.
+use Prim.Native.Nat.{ℕ, _+_, _-_, _≤_, _<_}
+use mathlib.Core.Path.{_≡_, refl, sym, ap, _∙_}
+use mathlib.Core.Bool.{Bool, true, false, not}
+use mathlib.Core.List.{List, [], _∷_, _++_, map, append-assoc}
+use native.Mathlib.Omega.{arith}
+use borrow.Author.Tests.{leb-false, eqb-true, not-false}
+use lib.ListN.{length, getD, set, take, drop, length-append}
+use lib.Seq.{getD-append-seam, set-append-seam, take-at, drop-at, length-take-le}
+use lib.Dec.{eqb, leb}
+use Rattle.sets.specs.Choice.{if_then_else_}
+use Rattle.sets.specs.Set.{clients}
+use Rattle.rows.specs.Rows.{Row, part, number, spliced, tagOf, cellOf, valueOf, dataRow, withValue}
+use Rattle.rows.proofs.Bytes.{part-take, take-before}
+use Rattle.rows.proofs.Rows.{Wide, tagOf-dataRow, cellOf-dataRow, valueOf-dataRow}
+use Rattle.search.specs.declared.Found.{Found}
+use Rattle.search.specs.declared.Found.the-variants.{At, Missing}
+use Rattle.search.specs.Look.{isOwn, find}
+use Rattle.search.specs.Share.{cellsOf}
+use Rattle.spec.specs.Answers.{noClient, noCell, notOpen, wrongStage, cellLimit, noFreeRow, wrongLength}
+use Rattle.spec.specs.Image.{Image, withRows, isOpen, stageOf, numberOf}
+use Rattle.spec.specs.Calls.{cells, givesFree, added, replaced, stored, write}
+use Rattle.spec.specs.Run.{Write}
+use Rattle.spec.proofs.Wellformed.{Wellformed}
+use Rattle.spec.proofs.Model as m
+use Rattle.spec.proofs.Model.{replace, some?}
+use Rattle.spec.proofs.Took.{no-write, replaces, adds}
+use Rattle.spec.proofs.View.{dataRowOf, clientOf, clientsAs, view, map-join, free-at}
+use Rattle.spec.proofs.Searches.{ownValue, own-yes, own-no, own-view}
+use Rattle.spec.proofs.Does.{seenAs, Does, does, does-if, not-open, opens, at-first}
+use Rattle.spec.proofs.Simple.{not6}
+
+-- ---- a row with another value
+
+module _ (r : Row) (v : List ℕ) (l : length r ≡ 24) (k : length v ≡ 16) where
+  front : (a n : ℕ) → a + n ≤ 8 → part a n (spliced 8 v r) ≡ part a n r
+  front a n h = sym (part-take a n 8 (spliced 8 v r) h) ∙ ap (part a n) (take-before 8 v r (omega arith)) ∙ part-take a n 8 r h
+
+  back : part 8 16 (spliced 8 v r) ≡ v
+  unfolding spliced
+  back = rw (append-assoc (take 8 r) v (drop (8 + length v) r), drop-at (take 8 r) (v ++ drop (8 + length v) r) 8 (length-take-le 8 r (omega arith))) (take-at v (drop (8 + length v) r) 16 k)
+
+  value-view : dataRowOf (withValue v r) ≡ record { tag = dataRowOf r .tag; cell = dataRowOf r .cell; value = v }
+  unfolding dataRowOf tagOf cellOf valueOf withValue
+  value-view = λ i. record { tag = ap number (front 0 4 (omega arith)) i; cell = ap number (front 4 2 (omega arith)) i; value = back i }
+
+-- ---- a new row
+
+row-view : (t x : ℕ) (v : List ℕ) → t < 4294967296 → x < 65536 → length v ≡ 16 → dataRowOf (dataRow t x v) ≡ record { tag = t; cell = x; value = v }
+unfolding dataRowOf
+row-view t x v h g l = λ i. record { tag = tagOf-dataRow t x v h i; cell = cellOf-dataRow t x v g i; value = valueOf-dataRow t x v l i }
+
+-- ---- the rows after a write
+
+not-missing : {j : ℕ} → Missing ≡ At j → ⊥
+not-missing {j} e = let z : _≡_ {A = ℕ} 0 1 = cc in omega arith
+
+module _ (t x : ℕ) (v : List ℕ) (l : length v ≡ 16) where
+  -- the rows pre, then rs, with row j's value replaced
+  abbrev after : List Row → ℕ → List Row
+  after ds j = set ds j (withValue v (getD ds j []))
+
+  replaced-from : (pre rs : List Row) (j : ℕ) → Wide 24 rs → find (isOwn t x) (length pre) rs ≡ At j
+      → map dataRowOf pre ++ replace t x v (map dataRowOf rs) ≡ map dataRowOf (after (pre ++ rs) j)
+  unfolding find replace some?
+  replaced-from pre [] j w e = absurd (not-missing e)
+  replaced-from pre (r ∷ rs) j w e =
+      let n : length (pre ++ (r ∷ [])) ≡ length pre + 1 = length-append pre (r ∷ []) in
+      go (isOwn t x r) refl e (λ f. replaced-from (pre ++ (r ∷ [])) rs j (w .1) (rw n f))
+    where
+      Goal : Type 0
+      Goal = map dataRowOf pre ++ replace t x v (map dataRowOf (r ∷ rs)) ≡ map dataRowOf (after (pre ++ (r ∷ rs)) j)
+
+      hit : isOwn t x r ≡ true → length pre ≡ j → Goal
+      hit h q =
+          rw (
+            own-yes t x r h,
+            ← q,
+            getD-append-seam pre r rs [],
+            set-append-seam pre r rs (withValue v r),
+            map-join dataRowOf pre (withValue v r ∷ rs),
+            value-view r v (w .0) l,
+          )
+
+      miss : isOwn t x r ≡ false → map dataRowOf (pre ++ (r ∷ [])) ++ replace t x v (map dataRowOf rs) ≡ map dataRowOf (after ((pre ++ (r ∷ [])) ++ rs) j) → Goal
+      miss h ih =
+          rw (own-no t x r h)
+          (sym (append-assoc (map dataRowOf pre) (dataRowOf r ∷ []) (replace t x v (map dataRowOf rs)))
+          ∙ rw (append-assoc pre (r ∷ []) rs, map-join dataRowOf pre (r ∷ [])) at ih)
+
+      go : (b : Bool) → isOwn t x r ≡ b → (if b then At (length pre) else find (isOwn t x) (length pre + 1) rs) ≡ At j
+          → (find (isOwn t x) (length pre + 1) rs ≡ At j
+          → map dataRowOf (pre ++ (r ∷ [])) ++ replace t x v (map dataRowOf rs) ≡ map dataRowOf (after ((pre ++ (r ∷ [])) ++ rs) j))
+          → Goal
+      go true h e ih = hit h (let q : length pre ≡ j = cc in q)
+      go false h e ih = miss h (ih e)
+
+-- ---- the call
+
+module _ (i : Image) (k x : ℕ) (v : List ℕ) (z : Wellformed i) (l : length v ≡ 16) where
+  replaced-view : (j : ℕ) → find (isOwn (numberOf i k) x) 0 (i .dataRows) ≡ At j → m.figured (view (replaced j v i .image)) ≡ m.overwritten (view i) k x v
+  unfolding m.overwritten view replaced clientsAs clientOf
+  replaced-view j e = rw (replaced-from (numberOf i k) x v l [] (i .dataRows) j (z .dataWide) e)
+
+  replaced-figure : (j : ℕ) → seenAs (Write k x v) (replaced j v i) ≡ m.figured (view (replaced j v i .image))
+  unfolding replaced
+  replaced-figure j = rw (free-at (replaced j v i .image))
+
+  find-at : m.find (view i .cl k .number) x (view i .dat) ≡ ownValue (i .dataRows) (find (isOwn (numberOf i k) x) 0 (i .dataRows))
+  unfolding view clientsAs clientOf
+  find-at = own-view (numberOf i k) x (i .dataRows)
+
+  module _ (small : numberOf i k < 4294967296) (below : x < cells) (isopen : 1 ≤ view i .cl k .number) (stage : view i .cl k .stage ≡ 0) where
+    -- the image with the row behind the last
+    more : Image
+    more = withRows i (i .dataRows ++ (dataRow (numberOf i k) x v ∷ [])) (i .commitRows)
+
+    added-view : m.figured (view more) ≡ m.added (view i) k x v
+    unfolding m.added view clientsAs clientOf more
+    added-view = rw (map-join dataRowOf (i .dataRows) (dataRow (numberOf i k) x v ∷ []), row-view (numberOf i k) x v small (omega arith) l)
+
+    added-figure : seenAs (Write k x v) (givesFree more) ≡ m.figured (view more)
+    added-figure = rw (free-at more)
+
+    pub stored-does : (o : Found) → find (isOwn (numberOf i k) x) 0 (i .dataRows) ≡ o → Does i (Write k x v) (stored o k x v i)
+    unfolding added more
+    stored-does (At j) e = does i (Write k x v) (replaced j v i) (replaced-figure j ∙ replaced-view j e) (replaces k x v below isopen stage (rw (find-at, e) tt))
+    stored-does Missing e =
+        does-if i (Write k x v) (leb (i .limit) (cellsOf (numberOf i k) (i .dataRows))) (λ _. record { did = no-write k x v cellLimit (not6 cellLimit (λ e. omega arith)) }) (λ _.
+        does-if i (Write k x v) (leb (i .rows) (length (i .dataRows))) (λ _. record { did = no-write k x v noFreeRow (not6 noFreeRow (λ e. omega arith)) }) (λ _.
+        does i (Write k x v) (givesFree more) (added-figure ∙ added-view) (adds k x v below isopen stage (find-at ∙ rw e))))
+
+pub write-does : (i : Image) (k x : ℕ) (v : List ℕ) → Wellformed i → numberOf i k < 4294967296 → Does i (Write k x v) (write k x v i)
+unfolding write
+write-does i k x v z b =
+    does-if i (Write k x v) (leb clients k) (λ _. record { did = no-write k x v noClient (not6 noClient (λ e. omega arith)) }) (λ h.
+    does-if i (Write k x v) (leb cells x) (λ _. record { did = no-write k x v noCell (not6 noCell (λ e. omega arith)) }) (λ g.
+    does-if i (Write k x v) (not (eqb (length v) 16)) (λ _. record { did = no-write k x v wrongLength (not6 wrongLength (λ e. omega arith)) }) (λ l.
+    does-if i (Write k x v) (not (isOpen i k)) (λ e. record { did = no-write k x v notOpen (λ _. not-open i k e) }) (λ o.
+    does-if i (Write k x v) (not (eqb (stageOf i k) 0)) (λ _. record { did = no-write k x v wrongStage (not6 wrongStage (λ e. omega arith)) }) (λ f.
+    stored-does i k x v z (eqb-true (length v) 16 (not-false (eqb (length v) 16) l)) b (leb-false cells x g) (opens i k o) (at-first i k f)
+    (find (isOwn (numberOf i k) x) 0 (i .dataRows)) refl)))))

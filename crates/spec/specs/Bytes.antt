@@ -1,0 +1,115 @@
+-- How an image stands in a record and two buffers, once for all calls; fitness; set-up.
+-- Assumes nothing.
+use Prim.Native.Nat.{ℕ, zero, suc, _*_, _-_, _/_}
+use mathlib.Core.Bool.{Bool, true, false, not}
+use mathlib.Core.List.{List}
+use lib.ListN.{length, getD, replicate}
+use lib.Dec.{ltb, eqb}
+use Rattle.sets.specs.Choice.{if_then_else_}
+use Rattle.sets.specs.Set.{clients}
+use Rattle.rows.specs.Rows.{rowsIn, laid}
+use Rattle.spec.specs.declared.Store.{Store}
+use Rattle.spec.specs.Answers.{Answer, Answered, Refused, badSetUp, unfit}
+use Rattle.spec.specs.Image.{Counters, countersOf, Clients, clientsOf, imageOf, Image, empty}
+use Rattle.spec.specs.Calls.{Outcome}
+
+-- ---- the record and the image
+
+abbrev pub countersIn : Store → Counters
+countersIn s = countersOf (s .issued) (s .requested) (s .taken) (s .last)
+
+abbrev pub clientsIn : Store → Clients
+clientsIn s = clientsOf (s .stage) (s .number) (s .snapshot) (s .request) (s .commit) (s .blockers) (s .ahead)
+
+abbrev pub recordOf : ℕ → ℕ → Counters → Clients → ℕ → ℕ → Store
+recordOf r l n c d m = record {
+  rows = r;
+  limit = l;
+  issued = n .issued;
+  requested = n .requested;
+  taken = n .taken;
+  last = n .last;
+  used = d;
+  entries = m;
+  stage = c .stage;
+  number = c .number;
+  snapshot = c .snapshot;
+  request = c .request;
+  commit = c .commit;
+  blockers = c .blockers;
+  ahead = c .ahead;
+}
+
+-- the image that a record and two buffers show
+unfoldable pub seen : Store → List ℕ → List ℕ → Image
+seen s d c = imageOf (s .rows) (s .limit) (countersIn s) (clientsIn s) (rowsIn 24 (s .used) d) (rowsIn 8 (s .entries) c)
+
+-- the record of an image
+unfoldable pub storeOf : Image → Store
+storeOf i = recordOf (i .rows) (i .limit) (i .counters) (i .clients) (length (i .dataRows)) (length (i .commitRows))
+
+-- ---- a call on a record and two buffers
+
+-- all that a call leaves: the record, each byte of both buffers, and the answer
+pub record After (A : Type 0) : Type 0 where
+  pub store : Store
+  pub dataBytes : List ℕ
+  pub commitBytes : List ℕ
+  pub answer : Answer A
+
+abbrev pub leaves : {A : Type 0} → Store → List ℕ → List ℕ → Answer A → After A
+leaves s d c a = record { store = s; dataBytes = d; commitBytes = c; answer = a }
+
+unfoldable pub laidOut : {A : Type 0} → Store → List ℕ → List ℕ → Outcome A → After A
+laidOut s d c o =
+    leaves (storeOf (o .image)) (laid 24 (s .used) (o .image .dataRows) d) (laid 8 (s .entries) (o .image .commitRows) c) (o .answer)
+
+-- the stages of the clients below n are known ones
+unfoldable pub known : List ℕ → ℕ → Bool
+known l zero = true
+known l (suc n) = if ltb 13 (getD l n 0) then false else known l n
+
+-- "A store is unfit if a buffer's length isn't that of its set-up, a row count exceeds its rows, its rows aren't 1 to 1,024, or a stage is
+-- unknown": here the store is fit, with a data buffer of d bytes and a committed buffer of c
+unfoldable pub fits : Store → ℕ → ℕ → Bool
+fits s d c =
+    if ltb (s .rows) 1 then false else
+    if ltb 1024 (s .rows) then false else
+    if not (eqb d (24 * s .rows)) then false else
+    if not (eqb c (8 * s .rows)) then false else
+    if ltb (s .rows) (s .used) then false else
+    if ltb (s .rows) (s .entries) then false else
+    known (s .stage) clients
+
+-- 2 for an unfit store, and else what the call makes of the image, laid out in its place
+unfoldable pub after : {A : Type 0} → (Image → Outcome A) → Store → List ℕ → List ℕ → After A
+after f s d c =
+    if fits s (length d) (length c) then laidOut s d c (f (seen s d c)) else
+    leaves s d c (Refused unfit)
+
+-- ---- "Set-up is given the buffers, the first W and the cell limit (0 stands for 16)."
+
+abbrev pub defaultLimit : ℕ
+defaultLimit = 16
+
+abbrev pub limitOf : ℕ → ℕ
+limitOf l = if eqb l 0 then defaultLimit else l
+
+-- "Refused 1 if the data length isn't 24 × rows with rows 1 to 1,024, the committed length isn't 8 × rows, the first W is 0, or the limit is
+-- above 64": here it is accepted, for buffers of d and c bytes
+unfoldable pub accepts : ℕ → ℕ → ℕ → ℕ → Bool
+accepts d c w l =
+    if not (eqb d (24 * (d / 24))) then false else
+    if ltb (d / 24) 1 then false else
+    if ltb 1024 (d / 24) then false else
+    if not (eqb c (8 * (d / 24))) then false else
+    if eqb w 0 then false else
+    not (ltb 64 l)
+
+-- "The record handed back then has 0 rows and zeros in all else, and the buffers keep their bytes. Success zeroes both buffers."
+unfoldable pub setUp : List ℕ → List ℕ → ℕ → ℕ → After ℕ
+setUp d c w l =
+    let r : ℕ = length d / 24 in
+    if accepts (length d) (length c) w l
+    then leaves (storeOf (empty r (limitOf l) (w - 1))) (replicate (length d) 0) (replicate (length c) 0) (Answered r)
+    else leaves (storeOf (empty 0 0 0)) d c (Refused badSetUp)

@@ -1,0 +1,162 @@
+-- The calls on an image: what each leaves and answers (document 01, "A transaction" and "Refusal by operation"). Tests stand in the order
+-- in which document 01 gives the refusals, and a refused call leaves the image as it is. Refusal 2 for an unfit store comes before all of
+-- these, in Bytes.antt. Client k, cell x, value v. The steps of Advance are in Steps.antt.
+-- Assumes nothing.
+use Prim.Native.Nat.{ℕ, zero, suc, _+_, _-_}
+use mathlib.Core.Bool.{Bool, not}
+use mathlib.Core.List.{List, [], _∷_, _++_}
+use lib.ListN.{length, getD, set}
+use lib.Dec.{leb, ltb, eqb}
+use Rattle.sets.specs.Choice.{if_then_else_}
+use Rattle.sets.specs.Set.{clients}
+use Rattle.rows.specs.Rows.{Row, dataRow, withValue, filter, hasTag}
+use Rattle.search.specs.declared.Number.{Number}
+use Rattle.search.specs.declared.Number.the-variants.{Some, None}
+use Rattle.search.specs.declared.Found.{Found}
+use Rattle.search.specs.declared.Found.the-variants.{At, Missing}
+use Rattle.search.specs.declared.Seen.{Seen}
+use Rattle.search.specs.declared.Seen.the-variants.{Version, Nothing}
+use Rattle.search.specs.Numbers.{smallest}
+use Rattle.search.specs.Look.{isOwn, find, lookFor}
+use Rattle.search.specs.Share.{cellsOf}
+use Rattle.removal.specs.Trim.{trimmedRows, trimmedCommits}
+use Rattle.spec.specs.declared.Begun.{Begun}
+use Rattle.spec.specs.declared.Reading.{Reading}
+use Rattle.spec.specs.declared.Reading.the-variants.{Value, Unwritten}
+use Rattle.spec.specs.Answers.{
+  Answer,
+  Answered,
+  Refused,
+  noClient,
+  noCell,
+  alreadyOpen,
+  notOpen,
+  wrongStage,
+  numbersUsedUp,
+  cellLimit,
+  noFreeRow,
+  wrongLength,
+}
+use Rattle.spec.specs.Image.{Image, withClients, withRows, withIssued, opened, closed, stageOf, numberOf, snapshotOf, isOpen}
+
+-- what a call makes of an image
+pub record Outcome (A : Type 0) : Type 0 where
+  pub image : Image
+  pub answer : Answer A
+
+abbrev pub gives : {A : Type 0} → Image → A → Outcome A
+gives i a = record { image = i; answer = Answered a }
+
+abbrev pub refuse : {A : Type 0} → ℕ → Image → Outcome A
+refuse n i = record { image = i; answer = Refused n }
+
+-- "Cells: numbers 0 to 1,023."
+abbrev pub cells : ℕ
+cells = 1024
+
+-- the largest number of 32 bits
+abbrev pub top : ℕ
+top = 4294967295
+
+-- ---- "Free figure: rows of the store less data rows in use."
+
+abbrev pub freeRows : Image → ℕ
+freeRows i = i .rows - length (i .dataRows)
+
+abbrev pub givesFree : Image → Outcome ℕ
+givesFree i = gives i (freeRows i)
+
+unfoldable pub free : Image → Outcome ℕ
+free i = givesFree i
+
+-- ---- "Begin takes the next W and a snapshot S, the last commit number." "Begin: 3 client above 31, 5 already open, 8 if W 4,294,967,295 has
+-- been issued."
+
+unfoldable pub begun : ℕ → Image → Outcome Begun
+begun k i =
+    let n : ℕ = i .counters .issued + 1 in
+    let s : ℕ = i .counters .last in
+    gives (withIssued (withClients i (opened k n s (i .clients))) n) (record { number = n; snapshot = s })
+
+unfoldable pub begin : ℕ → Image → Outcome Begun
+begin k i =
+    if leb clients k then refuse noClient i else
+    if isOpen i k then refuse alreadyOpen i else
+    if eqb (i .counters .issued) top then refuse numbersUsedUp i else
+    begun k i
+
+-- ---- "Read looks for a data row with the reader's tag and that cell; failing that, for the row of that cell whose tag is committed with the
+-- largest commit number not above S; failing that it answers Unwritten." "Read: 2, 3, 4 cell above 1,023, 6 nothing open, 7 stage not 0."
+
+abbrev pub reading : Seen → Reading
+reading (Version at n) = Value at
+reading Nothing = Unwritten
+
+unfoldable pub read : ℕ → ℕ → Image → Outcome Reading
+read k x i =
+    if leb clients k then refuse noClient i else
+    if leb cells x then refuse noCell i else
+    if not (isOpen i k) then refuse notOpen i else
+    if not (eqb (stageOf i k) 0) then refuse wrongStage i else
+    gives i (reading (lookFor (numberOf i k) x (snapshotOf i k) (i .dataRows) (i .commitRows)))
+
+-- ---- "Where one client's transaction wrote a cell twice, the second write replaces the value in its row." "In each buffer new rows go in
+-- directly behind the last one in use." "Write: 2, 3, 4, 12 value not 16 bytes, 6, 7; then, if it has no row for that cell yet, 9 cell limit
+-- reached, 10 no free row." It answers the free figure.
+
+unfoldable pub replaced : ℕ → List ℕ → Image → Outcome ℕ
+replaced j v i = givesFree (withRows i (set (i .dataRows) j (withValue v (getD (i .dataRows) j []))) (i .commitRows))
+
+unfoldable pub added : ℕ → ℕ → List ℕ → Image → Outcome ℕ
+added k x v i =
+    if leb (i .limit) (cellsOf (numberOf i k) (i .dataRows)) then refuse cellLimit i else
+    if leb (i .rows) (length (i .dataRows)) then refuse noFreeRow i else
+    givesFree (withRows i (i .dataRows ++ (dataRow (numberOf i k) x v ∷ [])) (i .commitRows))
+
+abbrev pub stored : Found → ℕ → ℕ → List ℕ → Image → Outcome ℕ
+stored (At j) k x v i = replaced j v i
+stored Missing k x v i = added k x v i
+
+unfoldable pub write : ℕ → ℕ → List ℕ → Image → Outcome ℕ
+write k x v i =
+    if leb clients k then refuse noClient i else
+    if leb cells x then refuse noCell i else
+    if not (eqb (length v) 16) then refuse wrongLength i else
+    if not (isOpen i k) then refuse notOpen i else
+    if not (eqb (stageOf i k) 0) then refuse wrongStage i else
+    stored (find (isOwn (numberOf i k) x) 0 (i .dataRows)) k x v i
+
+-- ---- "Abandon removes the transaction's data rows and queue rows in one step." "Abandon: 2, 3, 6, 7 at stages 12 and 13." It answers the free
+-- figure.
+
+unfoldable pub removed : ℕ → Image → Image
+removed k i = withClients (withRows i (filter (λ r. not (hasTag (numberOf i k) r)) (i .dataRows)) (i .commitRows)) (closed k (i .clients))
+
+unfoldable pub abandon : ℕ → Image → Outcome ℕ
+abandon k i =
+    if leb clients k then refuse noClient i else
+    if not (isOpen i k) then refuse notOpen i else
+    if leb 12 (stageOf i k) then refuse wrongStage i else
+    givesFree (removed k i)
+
+-- ---- "Trim: low is the smallest S of open transactions, or the last commit number if none is open."
+
+-- the snapshots that somebody reads at: those of the clients below m with an open transaction
+unfoldable pub readers : Image → ℕ → List Number
+readers i zero = []
+readers i (suc k) = (if isOpen i k then Some (snapshotOf i k) else None) ∷ readers i k
+
+abbrev pub orElse : Number → ℕ → ℕ
+orElse (Some n) z = n
+orElse None z = z
+
+unfoldable pub low : Image → ℕ
+low i = orElse (smallest (readers i clients)) (i .counters .last)
+
+-- "A committed data row goes if its cell has another with a larger commit number that is at most low. Committed rows with no data row left
+-- go too. It answers how many data rows went."
+unfoldable pub trimmedTo : List Row → Image → Outcome ℕ
+trimmedTo d i = gives (withRows i d (trimmedCommits d (i .commitRows))) (length (i .dataRows) - length d)
+
+unfoldable pub trim : Image → Outcome ℕ
+trim i = trimmedTo (trimmedRows (low i) (i .dataRows) (i .commitRows)) i

@@ -1,0 +1,219 @@
+-- The house cases of document 01 that are marked P, as rows of one table, and two rows more for mistakes of its list that these eight let
+-- pass. Each row has the lines that are put in, each with the line that is to come out. proofs/House.antt proves the whole table.
+-- Assumes nothing.
+use Prim.Native.Nat.{ℕ, zero, suc, _+_}
+use Prim.Native.String.{String}
+use mathlib.Core.List.{List, [], _∷_, _++_, map, flatten}
+use Rattle.spec.specs.Text.{str, decimalOf}
+
+pub record Exchange : Type 0 where
+  pub put : List ℕ
+  pub got : List ℕ
+
+infix 70 _⇒_
+abbrev pub _⇒_ : String → String → Exchange
+i ⇒ o = record { put = str i; got = str o }
+
+pub record Case : Type 0 where
+  pub name : String
+  pub exchanges : List Exchange
+
+-- n advances of client k that answer the stages from g on
+abbrev pub stages : ℕ → ℕ → ℕ → List Exchange
+stages k g zero = []
+stages k g (suc n) =
+    record {
+      put = str "(advance " ++ decimalOf k ++ str ")";
+      got = str "(advance " ++ decimalOf k ++ str " (stage " ++ decimalOf g ++ str "))";
+    }
+    ∷ stages k (g + 1) n
+
+-- the whole input of a case, and the whole output
+abbrev pub inputOf : Case → List ℕ
+inputOf c = flatten (map (λ (e : Exchange). e .put ++ (10 ∷ [])) (c .exchanges))
+
+abbrev pub outputOf : Case → List ℕ
+outputOf c = flatten (map (λ (e : Exchange). e .got ++ (10 ∷ [])) (c .exchanges))
+
+abbrev pub cases : List Case
+cases =
+    record {
+      name = "1: the run";
+      exchanges =
+          ("(set-up 2 1 0)" ⇒ "(set-up (free 2))"
+          ∷ "(begin 0)" ⇒ "(begin 0 (number 1) (snapshot 0))"
+          ∷ "(write 0 7 000102030405060708090a0b0c0d0e0f)" ⇒ "(write 0 7 (free 1))"
+          ∷ "(advance 0)" ⇒ "(advance 0 (stage 1))"
+          ∷ "(read 0 7)" ⇒ "(read 0 7 (refused 7))"
+          ∷ "(abandon 0)" ⇒ "(abandon 0 (free 2))"
+          ∷ "(free)" ⇒ "(free (free 2))"
+          ∷ []);
+    }
+    ∷ record {
+      name = "2: last client and last cell";
+      exchanges =
+          ("(set-up 2 1 0)" ⇒ "(set-up (free 2))"
+          ∷ "(begin 31)" ⇒ "(begin 31 (number 1) (snapshot 0))"
+          ∷ "(begin 32)" ⇒ "(begin 32 (refused 3))"
+          ∷ "(write 31 1023 000102030405060708090a0b0c0d0e0f)" ⇒ "(write 31 1023 (free 1))"
+          ∷ "(write 31 1024 000102030405060708090a0b0c0d0e0f)" ⇒ "(write 31 1024 (refused 4))"
+          ∷ []);
+    }
+    ∷ record {
+      name = "3: limit 1, no row free";
+      exchanges =
+          ("(set-up 1 1 1)" ⇒ "(set-up (free 1))"
+          ∷ "(begin 0)" ⇒ "(begin 0 (number 1) (snapshot 0))"
+          ∷ "(write 0 5 000102030405060708090a0b0c0d0e0f)" ⇒ "(write 0 5 (free 0))"
+          ∷ "(write 0 5 ffeeddccbbaa99887766554433221100)" ⇒ "(write 0 5 (free 0))"
+          ∷ "(read 0 5)" ⇒ "(read 0 5 (value ffeeddccbbaa99887766554433221100))"
+          ∷ "(write 0 6 000102030405060708090a0b0c0d0e0f)" ⇒ "(write 0 6 (refused 9))"
+          ∷ []);
+    }
+    ∷ record {
+      name = "4: a listed row without a number";
+      exchanges =
+          ("(set-up 4 1 0)" ⇒ "(set-up (free 4))"
+          ∷ "(begin 0)" ⇒ "(begin 0 (number 1) (snapshot 0))"
+          ∷ "(begin 1)" ⇒ "(begin 1 (number 2) (snapshot 0))"
+          ∷ "(write 0 7 000102030405060708090a0b0c0d0e0f)" ⇒ "(write 0 7 (free 3))"
+          ∷ "(write 1 7 ffeeddccbbaa99887766554433221100)" ⇒ "(write 1 7 (free 2))"
+          ∷ "(advance 1)" ⇒ "(advance 1 (stage 1))"
+          ∷ [])
+          ++ stages 0 1 4
+          ++ ("(advance 0)" ⇒ "(advance 0 (waiting 1))"
+          ∷ "(advance 1)" ⇒ "(advance 1 (stage 2))"
+          ∷ "(advance 0)" ⇒ "(advance 0 (waiting 1))"
+          ∷ "(advance 1)" ⇒ "(advance 1 (stage 3))"
+          ∷ "(advance 0)" ⇒ "(advance 0 (stage 5))"
+          ∷ []);
+    }
+    ∷ record {
+      name = "5: the later requester waits, then conflicts";
+      exchanges =
+          ("(set-up 4 1 0)" ⇒ "(set-up (free 4))"
+          ∷ "(begin 0)" ⇒ "(begin 0 (number 1) (snapshot 0))"
+          ∷ "(begin 1)" ⇒ "(begin 1 (number 2) (snapshot 0))"
+          ∷ "(write 0 7 000102030405060708090a0b0c0d0e0f)" ⇒ "(write 0 7 (free 3))"
+          ∷ "(write 1 7 ffeeddccbbaa99887766554433221100)" ⇒ "(write 1 7 (free 2))"
+          ∷ [])
+          ++ stages 0 1 3
+          ++ stages 1 1 4
+          ++ ("(advance 1)" ⇒ "(advance 1 (waiting 1))"
+          ∷ [])
+          ++ stages 0 4 10
+          ++ ("(advance 1)" ⇒ "(advance 1 (waiting 1))"
+          ∷ "(advance 0)" ⇒ "(advance 0 (done 1))"
+          ∷ "(advance 1)" ⇒ "(advance 1 (stage 5))"
+          ∷ "(advance 1)" ⇒ "(advance 1 (conflict 1))"
+          ∷ "(free)" ⇒ "(free (free 3))"
+          ∷ []);
+    }
+    ∷ record {
+      name = "6: a commit number taken and abandoned";
+      exchanges =
+          ("(set-up 4 1 0)" ⇒ "(set-up (free 4))"
+          ∷ "(begin 0)" ⇒ "(begin 0 (number 1) (snapshot 0))"
+          ∷ "(write 0 7 000102030405060708090a0b0c0d0e0f)" ⇒ "(write 0 7 (free 3))"
+          ∷ [])
+          ++ stages 0 1 8
+          ++ ("(abandon 0)" ⇒ "(abandon 0 (free 4))"
+          ∷ "(begin 1)" ⇒ "(begin 1 (number 2) (snapshot 0))"
+          ∷ "(write 1 7 000102030405060708090a0b0c0d0e0f)" ⇒ "(write 1 7 (free 3))"
+          ∷ [])
+          ++ stages 1 1 13
+          ++ ("(advance 1)" ⇒ "(advance 1 (done 2))"
+          ∷ "(begin 2)" ⇒ "(begin 2 (number 3) (snapshot 2))"
+          ∷ []);
+    }
+    ∷ record {
+      name = "7: three commits of one cell, trimmed";
+      exchanges =
+          ("(set-up 4 1 0)" ⇒ "(set-up (free 4))"
+          ∷ "(begin 0)" ⇒ "(begin 0 (number 1) (snapshot 0))"
+          ∷ "(write 0 7 000102030405060708090a0b0c0d0e0f)" ⇒ "(write 0 7 (free 3))"
+          ∷ [])
+          ++ stages 0 1 13
+          ++ ("(advance 0)" ⇒ "(advance 0 (done 1))"
+          ∷ "(begin 0)" ⇒ "(begin 0 (number 2) (snapshot 1))"
+          ∷ "(write 0 7 000102030405060708090a0b0c0d0e0f)" ⇒ "(write 0 7 (free 2))"
+          ∷ [])
+          ++ stages 0 1 13
+          ++ ("(advance 0)" ⇒ "(advance 0 (done 2))"
+          ∷ "(begin 0)" ⇒ "(begin 0 (number 3) (snapshot 2))"
+          ∷ "(write 0 7 000102030405060708090a0b0c0d0e0f)" ⇒ "(write 0 7 (free 1))"
+          ∷ [])
+          ++ stages 0 1 13
+          ++ ("(advance 0)" ⇒ "(advance 0 (done 3))"
+          ∷ "(trim)" ⇒ "(trim (dropped 2))"
+          ∷ "(trim)" ⇒ "(trim (dropped 0))"
+          ∷ "(free)" ⇒ "(free (free 3))"
+          ∷ []);
+    }
+    ∷ record {
+      name = "8: crossed reads and writes both commit";
+      exchanges =
+          ("(set-up 4 1 0)" ⇒ "(set-up (free 4))"
+          ∷ "(begin 0)" ⇒ "(begin 0 (number 1) (snapshot 0))"
+          ∷ "(begin 1)" ⇒ "(begin 1 (number 2) (snapshot 0))"
+          ∷ "(read 0 1)" ⇒ "(read 0 1 (unwritten))"
+          ∷ "(write 0 2 000102030405060708090a0b0c0d0e0f)" ⇒ "(write 0 2 (free 3))"
+          ∷ "(read 1 2)" ⇒ "(read 1 2 (unwritten))"
+          ∷ "(write 1 1 ffeeddccbbaa99887766554433221100)" ⇒ "(write 1 1 (free 2))"
+          ∷ [])
+          ++ stages 0 1 7
+          ++ stages 1 1 10
+          ++ ("(advance 1)" ⇒ "(advance 1 (waiting 1))"
+          ∷ [])
+          ++ stages 0 8 2
+          ++ stages 1 11 3
+          ++ ("(advance 1)" ⇒ "(advance 1 (done 1))"
+          ∷ [])
+          ++ stages 0 10 4
+          ++ ("(advance 0)" ⇒ "(advance 0 (done 2))"
+          ∷ "(begin 2)" ⇒ "(begin 2 (number 3) (snapshot 2))"
+          ∷ "(read 2 1)" ⇒ "(read 2 1 (value ffeeddccbbaa99887766554433221100))"
+          ∷ "(read 2 2)" ⇒ "(read 2 2 (value 000102030405060708090a0b0c0d0e0f))"
+          ∷ []);
+    }
+    ∷ record {
+      name = "a blocker that has begun again blocks no longer";
+      exchanges =
+          ("(set-up 4 1 0)" ⇒ "(set-up (free 4))"
+          ∷ "(begin 0)" ⇒ "(begin 0 (number 1) (snapshot 0))"
+          ∷ "(begin 1)" ⇒ "(begin 1 (number 2) (snapshot 0))"
+          ∷ "(write 0 7 000102030405060708090a0b0c0d0e0f)" ⇒ "(write 0 7 (free 3))"
+          ∷ "(write 1 7 ffeeddccbbaa99887766554433221100)" ⇒ "(write 1 7 (free 2))"
+          ∷ "(advance 1)" ⇒ "(advance 1 (stage 1))"
+          ∷ [])
+          ++ stages 0 1 4
+          ++ ("(advance 0)" ⇒ "(advance 0 (waiting 1))"
+          ∷ "(abandon 1)" ⇒ "(abandon 1 (free 3))"
+          ∷ "(begin 1)" ⇒ "(begin 1 (number 3) (snapshot 0))"
+          ∷ "(write 1 7 ffeeddccbbaa99887766554433221100)" ⇒ "(write 1 7 (free 2))"
+          ∷ "(advance 1)" ⇒ "(advance 1 (stage 1))"
+          ∷ "(advance 0)" ⇒ "(advance 0 (stage 5))"
+          ∷ []);
+    }
+    ∷ record {
+      name = "a trim while an older snapshot is open";
+      exchanges =
+          ("(set-up 4 1 0)" ⇒ "(set-up (free 4))"
+          ∷ "(begin 0)" ⇒ "(begin 0 (number 1) (snapshot 0))"
+          ∷ "(write 0 7 000102030405060708090a0b0c0d0e0f)" ⇒ "(write 0 7 (free 3))"
+          ∷ [])
+          ++ stages 0 1 13
+          ++ ("(advance 0)" ⇒ "(advance 0 (done 1))"
+          ∷ "(begin 1)" ⇒ "(begin 1 (number 2) (snapshot 1))"
+          ∷ "(begin 0)" ⇒ "(begin 0 (number 3) (snapshot 1))"
+          ∷ "(write 0 7 ffeeddccbbaa99887766554433221100)" ⇒ "(write 0 7 (free 2))"
+          ∷ [])
+          ++ stages 0 1 13
+          ++ ("(advance 0)" ⇒ "(advance 0 (done 2))"
+          ∷ "(trim)" ⇒ "(trim (dropped 0))"
+          ∷ "(read 1 7)" ⇒ "(read 1 7 (value 000102030405060708090a0b0c0d0e0f))"
+          ∷ "(abandon 1)" ⇒ "(abandon 1 (free 2))"
+          ∷ "(trim)" ⇒ "(trim (dropped 1))"
+          ∷ []);
+    }
+    ∷ []

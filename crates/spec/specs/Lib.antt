@@ -1,0 +1,11 @@
+pub mod Answers
+pub mod Image
+pub mod Calls
+pub mod Steps
+pub mod Bytes
+pub mod Text
+pub mod Session
+pub mod Cases
+pub mod Run
+pub mod Table
+pub mod Right

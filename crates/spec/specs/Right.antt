@@ -1,0 +1,140 @@
+-- What demand 3 says of each answer, by the plain table that was told all calls before it, and of a whole list of calls.
+-- Assumes nothing.
+use Prim.Native.Nat.{ℕ, zero, suc, _+_, _-_, _≤_, _<_}
+use mathlib.Core.Path.{_≡_}
+use mathlib.Core.Logic.{_≢_, _⊎_}
+use mathlib.Core.Bool.{Bool, true, false}
+use mathlib.Core.List.{List, [], _∷_, List·Memᴰ}
+use mathlib.Core.Option.{Option, none, some}
+use lib.ListN.{length, drop}
+use Rattle.sets.specs.Choice.{if_then_else_}
+use Rattle.rows.specs.Rows.{rowsIn}
+use Rattle.spec.specs.declared.Begun.{Begun}
+use Rattle.spec.specs.declared.Progress.{Progress}
+use Rattle.spec.specs.declared.Progress.the-variants.{Stage, Waiting, Conflict, Done}
+use Rattle.spec.specs.Answers.{Answer, Answered, Refused, unfit, notOpen, nothingWritten}
+use Rattle.spec.specs.Calls.{cells}
+use Rattle.spec.specs.Bytes.{fits, After}
+use Rattle.spec.specs.Run.{Call, Begin, Read, Write, Advance, Abandon, Trim, Free, Gives, Memory, memoryOf, takes}
+use Rattle.spec.specs.Table.{Value, Values, has, Commit, Open, Table, blank, orElse, Told, told, tell}
+
+-- ---- the words of the demands
+
+-- the last number in the book, 0 if there is none
+unfoldable pub lastNumber : List Commit → ℕ
+lastNumber [] = 0
+lastNumber (e ∷ []) = e .number
+lastNumber (e ∷ f ∷ l) = lastNumber (f ∷ l)
+
+-- the commit shares a cell with the writes
+abbrev pub Shares : Commit → Values → Type 0
+Shares e w = (x : ℕ) × (e .wrote x ≡ true) × (has (w x) ≡ true)
+
+-- "the commits in the book since the client began that share a cell with its writes"
+pub record Clash (t : Table) (o : Open) (e : Commit) : Type 0 where
+  pub since : List·Memᴰ e (drop (o .since) (t .book))
+  pub shares : Shares e (o .writes)
+
+abbrev pub NoClash : Table → Open → Type 0
+NoClash t o = (e : Commit) → Clash t o e → ⊥
+
+-- how many cells below n have a value
+unfoldable pub valued : ℕ → Values → ℕ
+valued zero w = 0
+valued (suc n) w = (if has (w n) then 1 else 0) + valued n w
+
+-- ---- an Advance of an open client, by its answer
+
+abbrev pub RightProgress : Table → Open → Progress → Type 0
+-- the stages follow document 01's table; the check passes with no such commit; the commit is made with no such commit but its own, and its
+-- number is above all in the book ("Numbers in the book rise")
+RightProgress t o (Stage g) =
+    (g ≡ o .stage + 1) × ((g ≡ 6 → NoClash t o) × (g ≡ 12 → NoClash t o × (lastNumber (t .book) < o .commit)))
+-- Waiting is answered at stages 4 and 10 alone
+RightProgress t o (Waiting n) = (o .stage ≡ 4) ⊎ (o .stage ≡ 10)
+-- "it answers Conflict with the smallest number among the commits in the book since the client began that share a cell with its writes"
+RightProgress t o (Conflict n) =
+    (o .stage ≡ 5) × (((e : Commit) × (e .number ≡ n) × Clash t o e) × ((e : Commit) → Clash t o e → n ≤ e .number))
+-- "closed only by Done, which gives its commit number, by then in the book"
+RightProgress t o (Done n) = (o .stage ≡ 13) × ((n ≡ o .commit) × ((e : Commit) × (e .number ≡ n) × List·Memᴰ e (t .book)))
+
+-- ---- an answer to a call of client k
+
+-- a refusal: "from stage 6 on [..] no call of that client gets 6"
+abbrev pub RightRefusal : Option Open → ℕ → Type 0
+RightRefusal none n = Unit {0}
+RightRefusal (some o) n = n ≡ notOpen → 6 ≤ o .stage → ⊥
+
+-- "the snapshot that Begin answers is the last of them, 0 if there is none", and "no Begin of it is answered" while a client is open; w is the
+-- last number that a Begin answered before: the numbers rise
+abbrev pub RightBegin : ℕ → Table → ℕ → Answer Begun → Type 0
+RightBegin w t k (Answered b) = (t .clients k ≡ none) × ((b .snapshot ≡ lastNumber (t .book)) × (w < b .number))
+RightBegin w t k (Refused n) = RightRefusal (t .clients k) n
+
+-- "An answered Read gives the client's own value for the cell, else its copy's, Unwritten if that has none."
+abbrev pub RightRead : Table → ℕ → ℕ → Answer (Option Value) → Type 0
+RightRead t k x (Answered v) = (o : Open) × (t .clients k ≡ some o) × (v ≡ orElse (o .writes x) (o .copy x))
+RightRead t k x (Refused n) = RightRefusal (t .clients k) n
+
+-- an answered Write or Abandon is one of an open client; from stage 12 on none is answered
+abbrev pub RightFigure : ℕ → Table → ℕ → Answer ℕ → Type 0
+RightFigure g t k (Answered f) = (o : Open) × (t .clients k ≡ some o) × (o .stage < g)
+RightFigure g t k (Refused n) = RightRefusal (t .clients k) n
+
+-- an Advance of an open client is refused at stage 0 alone, with 11: so the check is never refused, and a store grown from set-up never meets
+-- the refusals 2 of Advance
+abbrev pub RightAdvance : Table → ℕ → Answer Progress → Type 0
+RightAdvance t k (Answered a) = (o : Open) × (t .clients k ≡ some o) × RightProgress t o a
+RightAdvance t k (Refused n) = (o : Open) → t .clients k ≡ some o → (o .stage ≡ 0) × (n ≡ nothingWritten)
+
+-- "After an answered Trim with no client open, the free figure, as Free would answer next, is the set-up's rows less the cells with a value in
+-- the table"
+abbrev pub RightTrim : ℕ → Table → Answer ℕ → Answer ℕ → Type 0
+RightTrim rows t (Answered n) next = ((k : ℕ) → t .clients k ≡ none) → next ≡ Answered (rows - valued cells (t .values))
+RightTrim rows t (Refused n) next = Unit {0}
+
+-- of a store with that many rows: the answer a to a call q is right, by the table t and the last number w of a Begin before it; next is what
+-- Free would answer next
+abbrev pub Right : ℕ → ℕ → Table → (q : Call) → Answer (Told q) → Answer ℕ → Type 0
+Right rows w t (Begin k) a next = RightBegin w t k a
+Right rows w t (Read k x) a next = RightRead t k x a
+Right rows w t (Write k x v) a next = RightFigure 1 t k a
+Right rows w t (Advance k) a next = RightAdvance t k a
+Right rows w t (Abandon k) a next = RightFigure 12 t k a
+Right rows w t Trim a next = RightTrim rows t a next
+Right rows w t Free a next = Unit {0}
+
+-- the last number of a Begin, after this call
+abbrev pub numberAfter : (q : Call) → Answer (Told q) → ℕ → ℕ
+numberAfter (Begin k) (Answered b) w = b .number
+numberAfter (Begin k) (Refused n) w = w
+numberAfter (Read k x) a w = w
+numberAfter (Write k x v) a w = w
+numberAfter (Advance k) a w = w
+numberAfter (Abandon k) a w = w
+numberAfter Trim a w = w
+numberAfter Free a w = w
+
+-- ---- a list of calls on a record and two buffers
+
+-- what a call tells: a read's value is that of the data rows in use when it returns
+abbrev pub tells : (q : Call) → Memory → Answer (Told q)
+tells q m = told q (rowsIn 24 (takes q m .store .used) (takes q m .dataBytes)) (takes q m .answer)
+
+-- Every answer of the list is right, by the plain table that was told the calls and answers before it.
+abbrev pub RightRun : ℕ → ℕ → Table → Memory → List Call → Type 0
+RightRun rows w t m [] = Unit {0}
+RightRun rows w t m (q ∷ qs) =
+    Right rows w t q (tells q m) (takes Free (memoryOf (takes q m)) .answer)
+    × RightRun rows (numberAfter q (tells q m) w) (tell q (tells q m) t) (memoryOf (takes q m)) qs
+
+-- every call of the list gets 2 and changes nothing
+abbrev pub AllUnfit : Memory → List Call → Type 0
+AllUnfit m [] = Unit {0}
+AllUnfit m (q ∷ qs) = (takes q m .answer ≡ Refused unfit) × ((memoryOf (takes q m) ≡ m) × AllUnfit m qs)
+
+-- the store is fit after each call of the list
+abbrev pub AllFit : Memory → List Call → Type 0
+AllFit m [] = Unit {0}
+AllFit m (q ∷ qs) =
+    (fits (takes q m .store) (length (takes q m .dataBytes)) (length (takes q m .commitBytes)) ≡ true) × AllFit (memoryOf (takes q m)) qs

@@ -1,0 +1,55 @@
+-- Lists of calls on a record and two buffers.
+-- Assumes nothing.
+use Prim.Native.Nat.{ℕ}
+use mathlib.Core.List.{List}
+use Rattle.spec.specs.declared.Store.{Store}
+use Rattle.spec.specs.declared.Begun.{Begun}
+use Rattle.spec.specs.declared.Reading.{Reading}
+use Rattle.spec.specs.declared.Progress.{Progress}
+use Rattle.spec.specs.Image.{Image}
+use Rattle.spec.specs.Calls.{Outcome, free, begin, read, write, abandon, trim}
+use Rattle.spec.specs.Steps.{advance}
+use Rattle.spec.specs.Bytes.{After, after}
+
+-- a call with its arguments: client, cell, value
+pub data Call : Type 0 where
+  Begin : ℕ → Call
+  Read : ℕ → ℕ → Call
+  Write : ℕ → ℕ → List ℕ → Call
+  Advance : ℕ → Call
+  Abandon : ℕ → Call
+  Trim : Call
+  Free : Call
+
+-- what a call gives where it is not refused
+abbrev pub Gives : Call → Type 0
+Gives (Begin k) = Begun
+Gives (Read k x) = Reading
+Gives (Write k x v) = ℕ
+Gives (Advance k) = Progress
+Gives (Abandon k) = ℕ
+Gives Trim = ℕ
+Gives Free = ℕ
+
+-- what it makes of an image
+unfoldable pub perform : (q : Call) → Image → Outcome (Gives q)
+perform (Begin k) i = begin k i
+perform (Read k x) i = read k x i
+perform (Write k x v) i = write k x v i
+perform (Advance k) i = advance k i
+perform (Abandon k) i = abandon k i
+perform Trim i = trim i
+perform Free i = free i
+
+-- the record and the bytes of both buffers, as a call finds and leaves them
+pub record Memory : Type 0 where
+  pub store : Store
+  pub dataBytes : List ℕ
+  pub commitBytes : List ℕ
+
+abbrev pub memoryOf : {A : Type 0} → After A → Memory
+memoryOf a = record { store = a .store; dataBytes = a .dataBytes; commitBytes = a .commitBytes }
+
+-- what a call leaves of them and answers: what the promise of the call's code says
+abbrev pub takes : (q : Call) → Memory → After (Gives q)
+takes q m = after (perform q) (m .store) (m .dataBytes) (m .commitBytes)

@@ -1,0 +1,153 @@
+// The store's record and the answers of its calls. What the calls do is defined in specs/.
+use sets::CLIENTS;
+use sets::Set;
+
+// The record: document 01, "What the store holds". A client has an open transaction where its number is not 0.
+pub struct Store {
+    // rows of the store, and the cell limit
+    pub rows: u32,
+    pub limit: u32,
+    // the counters W, R and C, and the last commit number
+    pub issued: u32,
+    pub requested: u32,
+    pub taken: u32,
+    pub last: u32,
+    // data rows and committed rows in use
+    pub used: u32,
+    pub entries: u32,
+    // by client: stage, transaction number, snapshot, request number, commit number, and the waiting lists of the request queue and of the
+    // commit queue
+    pub stage: [u32; CLIENTS],
+    pub number: [u32; CLIENTS],
+    pub snapshot: [u32; CLIENTS],
+    pub request: [u32; CLIENTS],
+    pub commit: [u32; CLIENTS],
+    pub blockers: [Set; CLIENTS],
+    pub ahead: [Set; CLIENTS],
+}
+
+// Why a call is refused; document 01's number of each is in specs/Answers.antt.
+pub enum Refusal {
+    BadSetUp,
+    Unfit,
+    NoClient,
+    NoCell,
+    AlreadyOpen,
+    NotOpen,
+    WrongStage,
+    NumbersUsedUp,
+    CellLimit,
+    NoFreeRow,
+    NothingWritten,
+    WrongLength,
+}
+
+// What Begin gives.
+pub struct Begun {
+    pub number: u32,
+    pub snapshot: u32,
+}
+
+// What Read gives: the data row in which the value stands.
+pub enum Reading {
+    Value(usize),
+    Unwritten,
+}
+
+// What Advance gives: the new stage; how many transactions are still waited for; the smallest conflicting commit number; the
+// transaction's commit number.
+pub enum Progress {
+    Stage(u32),
+    Waiting(u32),
+    Conflict(u32),
+    Done(u32),
+}
+
+// The answers, by kind. Set-up, Write, Abandon and Free give the free figure, Trim how many data rows went.
+pub enum FigureAnswer {
+    Answered(u32),
+    Refused(Refusal),
+}
+
+pub enum BeginAnswer {
+    Answered(Begun),
+    Refused(Refusal),
+}
+
+pub enum ReadAnswer {
+    Answered(Reading),
+    Refused(Refusal),
+}
+
+pub enum AdvanceAnswer {
+    Answered(Progress),
+    Refused(Refusal),
+}
+
+// What a call hands back: the record and the answer.
+pub struct FigureTurn {
+    pub store: Store,
+    pub answer: FigureAnswer,
+}
+
+pub struct BeginTurn {
+    pub store: Store,
+    pub answer: BeginAnswer,
+}
+
+pub struct ReadTurn {
+    pub store: Store,
+    pub answer: ReadAnswer,
+}
+
+pub struct AdvanceTurn {
+    pub store: Store,
+    pub answer: AdvanceAnswer,
+}
+
+// The stages of a queue: a client is in it from first to last, and its number is noted from noted on.
+pub struct Queue {
+    pub first: u32,
+    pub noted: u32,
+    pub last: u32,
+}
+
+// ---- the step program
+
+// What a line says. A value is given by the place of its digits in the line.
+pub enum Form {
+    SetUp {
+        rows: u32,
+        first: u32,
+        limit: u32,
+    },
+    Begin(u32),
+    Read(u32, u32),
+    Write {
+        client: u32,
+        cell: u32,
+        value: usize,
+    },
+    Advance(u32),
+    Abandon(u32),
+    Trim,
+    Free,
+    Other,
+}
+
+// A decimal number in a line and the place behind it.
+pub enum Decimal {
+    Is { value: u32, next: usize },
+    No,
+}
+
+// One number, and two, up to the end of a form.
+pub enum One {
+    Only(u32),
+    NotOne,
+}
+
+pub enum Two {
+    Both(u32, u32),
+    NotTwo,
+}

@@ -1,0 +1,52 @@
+-- What the steps that change rows leave, by the facts that their code has found: one law for each way in which a step ends.
+-- Assumes nothing.
+use Prim.Native.Nat.{ℕ, _+_, _*_, _≤_, _<_}
+use mathlib.Core.Path.{_≡_, refl, sym, _∙_}
+use mathlib.Core.List.{List, [], _∷_, _++_}
+use borrow.Author.Tests.{le-leb, lt-leb}
+use lib.ListN.{length, getD, length-append}
+use Rattle.rows.specs.Rows.{Row, rowsIn, laid, commitRow}
+use Rattle.rows.proofs.Rows.{length-rows}
+use Rattle.rows.proofs.Laid.{laid-same}
+use Rattle.search.specs.declared.Number.{Number}
+use Rattle.search.specs.Share.{conflict}
+use Rattle.spec.specs.declared.Store.{Store}
+use Rattle.spec.specs.declared.Progress.{Progress}
+use Rattle.spec.specs.declared.Progress.the-variants.{Stage}
+use Rattle.spec.specs.Answers.{Answer, Answered, unfit}
+use Rattle.spec.specs.Image.{countersOf, setStage}
+use Rattle.spec.specs.Calls.{refuse, removed}
+use Rattle.spec.specs.Steps.{goOn, addCommit, checked, check}
+use Rattle.spec.specs.Bytes.{clientsIn, recordOf, seen, storeOf, leaves, laidOut}
+use Rattle.spec.proofs.Ends.{ends}
+use Rattle.steps.specs.Removed.{Removed}
+
+module _ (s : Store) (d c : List ℕ) (k : ℕ) where
+  -- the committed buffer is full
+  pub commit-full : s .rows ≤ s .entries → addCommit k (seen s d c) ≡ refuse unfit (seen s d c)
+  unfolding addCommit seen
+  commit-full h = rw (length-rows 8 (s .entries) c, le-leb (s .rows) (s .entries) h)
+
+  -- a committed row stands behind the last one in use, and is the last commit
+  pub commit-added : (c′ : List ℕ) → s .entries < s .rows
+      → c′ ≡ laid 8 (s .entries) (rowsIn 8 (s .entries) c ++ (commitRow (getD (s .commit) k 0) (getD (s .number) k 0) ∷ [])) c
+      → leaves (recordOf (s .rows) (s .limit) (countersOf (s .issued) (s .requested) (s .taken) (getD (s .commit) k 0)) (setStage k 12 (clientsIn s)) (s .used) (s .entries + 1)) d c′ (Answered (Stage 12))
+      ≡ laidOut s d c (addCommit k (seen s d c))
+  unfolding addCommit goOn seen storeOf
+  commit-added c′ g e =
+      let r : Row = commitRow (getD (s .commit) k 0) (getD (s .number) k 0) in
+      let n : length (rowsIn 8 (s .entries) c ++ (r ∷ [])) ≡ s .entries + 1 = length-append (rowsIn 8 (s .entries) c) (r ∷ []) ∙ rw (length-rows 8 (s .entries) c) in
+      rw (length-rows 8 (s .entries) c, lt-leb (s .rows) (s .entries) g)
+      (ends s d c _ _ _ _ _ (rw (n, length-rows 24 (s .used) d)) (sym (laid-same 24 (s .used) d)) e refl)
+
+  -- the check, by the number that was found
+  pub check-found : (f : Number) → f ≡ conflict (getD (s .number) k 0) (getD (s .snapshot) k 0) (rowsIn 24 (s .used) d) (rowsIn 8 (s .entries) c)
+      → checked f k (seen s d c) ≡ check k (seen s d c)
+  unfolding check seen
+  check-found f e = rw e
+
+  -- the client's rows are removed and it is closed, whatever is answered
+  pub removed-ends : {A : Type 0} (a : Answer A) (s′ : Store) (d′ : List ℕ) → Removed k s d s′ d′
+      → leaves s′ d′ c a ≡ laidOut s d c (record { image = removed k (seen s d c); answer = a })
+  unfolding removed seen
+  removed-ends a s′ d′ r = ends s d c _ _ _ _ _ (r .store c) (r .bytes c) (sym (laid-same 8 (s .entries) c)) refl

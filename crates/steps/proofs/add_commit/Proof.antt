@@ -1,0 +1,65 @@
+-- `steps::add_commit`: refused where the committed buffer is full, else the row and the last commit.
+-- Assumes nothing.
+use native.Mathlib.Omega.{arith}
+use borrow.Author.Needs.{needs}
+use Rattle.spec.proofs.Ends.{stays}
+use Rattle.steps.proofs.Outcomes.{commit-full, commit-added}
+use Rattle.steps.proofs.add_commit.Statement.{statement}
+use Rattle.steps.proofs.add_commit.Tie as tie
+
+refuse-requires : tie.Need-refuse-requires
+refuse-requires c κs = search needs
+
+returns : tie.Need-returns
+returns c = λ d. rw (c .refuse .ensures) (stays _ d _ _ _ (commit-full _ d _ _ (omega arith)))
+
+mul-n : tie.Need-mul-n
+mul-n c = search needs
+
+element-copy-out-n : tie.Need-element-copy-out-n
+element-copy-out-n c = search needs
+
+mul-tag : tie.Need-mul-tag
+mul-tag c = search needs
+
+element-copy-out-tag : tie.Need-element-copy-out-tag
+element-copy-out-tag c = search needs
+
+cast-entries : tie.Need-cast-entries
+cast-entries c = search needs
+
+append-commit-requires : tie.Need-append-commit-requires
+append-commit-requires c κs = search needs
+
+add-next : tie.Need-add-next
+add-next c = search needs
+
+mul-next : tie.Need-mul-next
+mul-next c = search needs
+
+element-write-next : tie.Need-element-write-next
+element-write-next c = search needs
+
+same-length : tie.Need-same-length
+same-length c = search needs
+
+returns-2 : tie.Need-returns-2
+returns-2 c = λ d. commit-added _ d _ _ _ (omega arith) (c .before .before .append-commit .ensures)
+
+pub add-commit-spec : {M : Type 1} → statement M
+add-commit-spec =
+    tie.close
+    (tie.spec
+    refuse-requires
+    returns
+    mul-n
+    element-copy-out-n
+    mul-tag
+    element-copy-out-tag
+    cast-entries
+    append-commit-requires
+    add-next
+    mul-next
+    element-write-next
+    same-length
+    returns-2)

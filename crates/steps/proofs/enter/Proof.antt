@@ -1,0 +1,52 @@
+-- `steps::enter`: refused where the transaction has no row, else stage 1.
+-- Assumes nothing.
+use borrow.Author.Needs.{needs}
+use borrow.Author.Tests.{not-true, not-false}
+use Rattle.spec.specs.Bytes.{seen}
+use Rattle.spec.specs.Steps.{enter}
+use Rattle.spec.proofs.Ends.{stays}
+use Rattle.steps.proofs.enter.Statement.{statement}
+use Rattle.steps.proofs.enter.Tie as tie
+
+mul-number : tie.Need-mul-number
+mul-number c = search needs
+
+element-copy-out-number : tie.Need-element-copy-out-number
+element-copy-out-number c = search needs
+
+cast-used : tie.Need-cast-used
+cast-used c = search needs
+
+has-rows-requires : tie.Need-has-rows-requires
+has-rows-requires c κs = search needs
+
+refuse-requires : tie.Need-refuse-requires
+refuse-requires c κs = search needs
+
+returns : tie.Need-returns
+unfolding enter seen
+returns c =
+    let h = c .before .before .has-rows in
+    λ e. rw (c .refuse .ensures) (stays _ _ e _ _ (rw (← h .ensures, not-true (h .result) (c .before .if1 .taken))))
+
+go-on-requires : tie.Need-go-on-requires
+go-on-requires c κs = search needs
+
+returns-2 : tie.Need-returns-2
+unfolding enter seen
+returns-2 c =
+    let h = c .before .before .has-rows in
+    λ e. rw (← h .ensures, not-false (h .result) (c .before .if1 .left)) (c .go-on .ensures _ e)
+
+pub enter-spec : {M : Type 1} → statement M
+enter-spec =
+    tie.close
+    (tie.spec
+    mul-number
+    element-copy-out-number
+    cast-used
+    has-rows-requires
+    refuse-requires
+    returns
+    go-on-requires
+    returns-2)

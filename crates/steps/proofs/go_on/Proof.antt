@@ -1,0 +1,21 @@
+-- `steps::go_on`: one stage is stored, and nothing else changes.
+-- Assumes nothing.
+use borrow.Author.Needs.{needs}
+use Rattle.spec.specs.Bytes.{seen}
+use Rattle.spec.specs.Steps.{goOn}
+use Rattle.spec.proofs.Ends.{ends-same}
+use Rattle.steps.proofs.go_on.Statement.{statement}
+use Rattle.steps.proofs.go_on.Tie as tie
+
+mul-next : tie.Need-mul-next
+mul-next c = search needs
+
+element-write-next : tie.Need-element-write-next
+element-write-next c = search needs
+
+returns : tie.Need-returns
+unfolding goOn seen
+returns c = λ d e. ends-same _ d e _ _ _
+
+pub go-on-spec : {M : Type 1} → statement M
+go-on-spec = tie.close (tie.spec mul-next element-write-next returns)

@@ -1,0 +1,24 @@
+-- `steps::leave_requests`: the client is closed.
+-- Assumes nothing.
+use borrow.Author.Needs.{needs}
+use Rattle.spec.specs.Bytes.{seen}
+use Rattle.spec.specs.Steps.{leaveRequests}
+use Rattle.spec.proofs.Ends.{ends-same}
+use Rattle.steps.proofs.leave_requests.Statement.{statement}
+use Rattle.steps.proofs.leave_requests.Tie as tie
+
+mul-n : tie.Need-mul-n
+mul-n c = search needs
+
+element-copy-out-n : tie.Need-element-copy-out-n
+element-copy-out-n c = search needs
+
+close-requires : tie.Need-close-requires
+close-requires c κs = search needs
+
+returns : tie.Need-returns
+unfolding leaveRequests seen
+returns c = λ d e. rw (c .close .ensures) (ends-same _ d e _ _ _)
+
+pub leave-requests-spec : {M : Type 1} → statement M
+leave-requests-spec = tie.close (tie.spec mul-n element-copy-out-n close-requires returns)

@@ -1,0 +1,27 @@
+-- `steps::list_commits`: the list is that of all others in the commit queue.
+-- Assumes nothing.
+use borrow.Author.Needs.{needs}
+use Rattle.spec.specs.Bytes.{seen, laidOut}
+use Rattle.spec.specs.Steps.{others, listCommits}
+use Rattle.steps.proofs.list_commits.Statement.{statement}
+use Rattle.steps.proofs.list_commits.Tie as tie
+
+others-requires : tie.Need-others-requires
+others-requires c κs = search needs
+
+mul-next : tie.Need-mul-next
+mul-next c = search needs
+
+element-write-next : tie.Need-element-write-next
+element-write-next c = search needs
+
+go-on-requires : tie.Need-go-on-requires
+go-on-requires c κs = search needs
+
+returns : tie.Need-returns
+unfolding listCommits others seen laidOut
+returns c = λ d e. rw (← c .before .others .ensures) (c .go-on .ensures d e)
+
+pub list-commits-spec : {M : Type 1} → statement M
+list-commits-spec =
+    tie.close (tie.spec others-requires mul-next element-write-next go-on-requires returns)

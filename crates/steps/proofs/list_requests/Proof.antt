@@ -1,0 +1,51 @@
+-- `steps::list_requests`: the list is that of the queued clients who share a cell.
+-- Assumes nothing.
+use borrow.Author.Needs.{needs}
+use Rattle.spec.specs.Bytes.{seen, laidOut}
+use Rattle.spec.specs.Steps.{listRequests, others}
+use Rattle.steps.proofs.list_requests.Statement.{statement}
+use Rattle.steps.proofs.list_requests.Tie as tie
+
+mul-number : tie.Need-mul-number
+mul-number c = search needs
+
+element-copy-out-number : tie.Need-element-copy-out-number
+element-copy-out-number c = search needs
+
+cast-used : tie.Need-cast-used
+cast-used c = search needs
+
+others-requires : tie.Need-others-requires
+others-requires c κs = search needs
+
+sharers-requires : tie.Need-sharers-requires
+sharers-requires c κs = search needs
+
+mul-next : tie.Need-mul-next
+mul-next c = search needs
+
+element-write-next : tie.Need-element-write-next
+element-write-next c = search needs
+
+go-on-requires : tie.Need-go-on-requires
+go-on-requires c κs = search needs
+
+returns : tie.Need-returns
+unfolding listRequests others seen laidOut
+returns c =
+    let queued = c .before .before .before .before .others in
+    λ e. rw (← queued .ensures, ← c .before .sharers .ensures) (c .go-on .ensures _ e)
+
+pub list-requests-spec : {M : Type 1} → statement M
+list-requests-spec =
+    tie.close
+    (tie.spec
+    mul-number
+    element-copy-out-number
+    cast-used
+    others-requires
+    sharers-requires
+    mul-next
+    element-write-next
+    go-on-requires
+    returns)

@@ -1,0 +1,60 @@
+-- `steps::remove`: the rows of other transactions are left, and the client is closed.
+-- Assumes nothing.
+use native.Mathlib.Omega.{arith}
+use borrow.Author.Needs.{needs}
+use lib.ListN.{getD}
+use Rattle.rows.specs.Rows.{rowsIn}
+use Rattle.rows.proofs.Rows.{length-rows, filter-fewer}
+use Rattle.removal.specs.Kept.{otherTag}
+use Rattle.spec.specs.Calls.{removed}
+use Rattle.spec.specs.Bytes.{seen, storeOf}
+use Rattle.steps.proofs.remove.Statement.{statement}
+use Rattle.steps.proofs.remove.Tie as tie
+
+mul-number : tie.Need-mul-number
+mul-number c = search needs
+
+element-copy-out-number : tie.Need-element-copy-out-number
+element-copy-out-number c = search needs
+
+cast-used : tie.Need-cast-used
+cast-used c = search needs
+
+remove-rows-requires : tie.Need-remove-rows-requires
+remove-rows-requires c κs = search needs
+
+cast-left : tie.Need-cast-left
+cast-left c =
+    let a = c .before .before .before .before .before .before .args in
+    let r = c .before .before .remove-rows in
+    let n = getD (a .t1 .number) (a .client) 0 in
+    omega (arith, r .ensures .rows, filter-fewer (otherTag n) (rowsIn 24 (a .t1 .used) (a .rows .now)), length-rows 24 (a .t1 .used) (a .rows .now))
+
+close-requires : tie.Need-close-requires
+close-requires c κs = search needs
+
+same-length : tie.Need-same-length
+same-length c = search needs
+
+returns : tie.Need-returns
+unfolding removed seen storeOf otherTag
+returns c =
+    let a = c .before .before .before .before .before .before .before .args in
+    let r = c .before .before .before .remove-rows in
+    record {
+      store = λ e. rw (c .close .ensures, r .ensures .rows, length-rows 8 (a .t1 .entries) e);
+      bytes = λ e. r .ensures .bytes;
+    }
+
+pub remove-spec : {M : Type 1} → statement M
+remove-spec =
+    tie.close
+    (tie.spec
+    mul-number
+    element-copy-out-number
+    cast-used
+    remove-rows-requires
+    cast-left
+    close-requires
+    same-length
+    returns)

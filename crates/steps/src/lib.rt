@@ -1,0 +1,294 @@
+// Advance: one small step function for each stage, 0 to 13. Where a step sees one buffer or none, its promise speaks of any other.
+ghost use mathlib.Core.Path.{_≡_};
+ghost use mathlib.Core.Bool.{true};
+ghost use mathlib.Core.List.{List};
+ghost use Prim.Native.Nat.{ℕ, _*_, _≤_, _<_};
+ghost use lib.ListN.{length, getD};
+ghost use Rattle.sets.specs.Set.{clients};
+ghost use Rattle.spec.specs.Answers.{Answer, advanceOf};
+ghost use Rattle.steps.specs.Removed.{Removed};
+ghost use Rattle.spec.specs.Steps.{goOn, enter, takeRequest, listRequests, lookRequests, check, takeCommit, listCommits, lookCommits, addCommit, leaveCommits, leaveRequests, steps, noStep};
+ghost use Rattle.spec.specs.Bytes.{seen, leaves, laidOut, fits};
+use search::Number;
+use sets::CLIENTS;
+use spec::AdvanceAnswer;
+use spec::AdvanceTurn;
+use spec::Progress;
+use spec::Queue;
+use spec::Refusal;
+use spec::Store;
+
+fn refuse(store: Store, refusal: Refusal) -> AdvanceTurn
+    ensures { λ r. ⌜ r ≡ record { store = store; answer = AdvanceAnswer.Refused refusal } ⌝ }
+{
+    AdvanceTurn {
+        store,
+        answer: AdvanceAnswer::Refused(refusal),
+    }
+}
+
+// The client goes on to a stage.
+fn go_on(store: Store, client: u32, stage: u32) -> AdvanceTurn
+    requires { ⌜ client < clients ⌝ }
+    ensures { λ r. ⌜ ((d c : List ℕ) → leaves (r .store) d c (advanceOf (r .answer)) ≡ laidOut store d c (goOn stage client (seen store d c))) ⌝ }
+{
+    let k = client as usize;
+    let mut next = store;
+    next.stage[k] = stage;
+    AdvanceTurn {
+        store: next,
+        answer: AdvanceAnswer::Answered(Progress::Stage(stage)),
+    }
+}
+
+// 0: enter the request queue.
+fn enter(store: Store, rows: &[u8], client: u32) -> AdvanceTurn
+    requires { ⌜ client < clients ⌝ }
+    requires { ⌜ 24 * store .used ≤ length (now rows) ⌝ }
+    ensures { λ r. ⌜ ((c : List ℕ) → leaves (r .store) (now (rows .entry)) c (advanceOf (r .answer)) ≡ laidOut store (now (rows .entry)) c (enter client (seen store (now (rows .entry)) c))) ⌝ }
+{
+    let k = client as usize;
+    let number = store.number[k];
+    let used = store.used as usize;
+    if !search::has_rows(rows, used, number) {
+        return refuse(store, Refusal::NothingWritten);
+    }
+    go_on(store, client, 1)
+}
+
+// 1: take a request number.
+fn take_request(store: Store, client: u32) -> AdvanceTurn
+    requires { ⌜ client < clients ⌝ }
+    ensures { λ r. ⌜ ((d c : List ℕ) → leaves (r .store) d c (advanceOf (r .answer)) ≡ laidOut store d c (takeRequest client (seen store d c))) ⌝ }
+{
+    if store.requested == 4294967295 {
+        return refuse(store, Refusal::Unfit);
+    }
+    let k = client as usize;
+    let n = store.requested + 1;
+    let mut next = store;
+    next.requested = n;
+    next.request[k] = n;
+    go_on(next, client, 2)
+}
+
+// 3: list the other queue rows that share a cell, once.
+fn list_requests(store: Store, rows: &[u8], client: u32) -> AdvanceTurn
+    requires { ⌜ client < clients ⌝ }
+    requires { ⌜ 24 * store .used ≤ length (now rows) ⌝ }
+    ensures { λ r. ⌜ ((c : List ℕ) → leaves (r .store) (now (rows .entry)) c (advanceOf (r .answer)) ≡ laidOut store (now (rows .entry)) c (listRequests client (seen store (now (rows .entry)) c))) ⌝ }
+{
+    let queue = Queue {
+        first: 1,
+        noted: 3,
+        last: 13,
+    };
+    let k = client as usize;
+    let number = store.number[k];
+    let used = store.used as usize;
+    let queued = record::others(queue, &store.stage, client);
+    let list = search::sharers(rows, used, number, &store.number, queued);
+    let mut next = store;
+    next.blockers[k] = list;
+    go_on(next, client, 4)
+}
+
+// 4: look at the request queue.
+fn look_requests(store: Store, client: u32) -> AdvanceTurn
+    requires { ⌜ client < clients ⌝ }
+    ensures { λ r. ⌜ ((d c : List ℕ) → leaves (r .store) d c (advanceOf (r .answer)) ≡ laidOut store d c (lookRequests client (seen store d c))) ⌝ }
+{
+    let queue = Queue {
+        first: 1,
+        noted: 3,
+        last: 13,
+    };
+    let k = client as usize;
+    let stage = store.stage;
+    let request = store.request;
+    let own = request[k];
+    let list = record::look(queue, own, &stage, &request, store.blockers[k]);
+    let mut next = store;
+    next.blockers[k] = list;
+    if list == 0 {
+        return go_on(next, client, 5);
+    }
+    AdvanceTurn {
+        store: next,
+        answer: AdvanceAnswer::Answered(Progress::Waiting(sets::count(list))),
+    }
+}
+
+// The client's data rows removed, and the client closed.
+pub fn remove(store: Store, rows: &mut [u8], client: u32) -> Store
+    requires { ⌜ client < clients ⌝ }
+    requires { ⌜ 24 * store .used ≤ length (now rows) ⌝ }
+    requires { ⌜ store .used ≤ 1024 ⌝ }
+    ensures { λ r. ⌜ Removed client store (now (rows .entry)) r (now (rows .exit)) ⌝ }
+{
+    let k = client as usize;
+    let number = store.number[k];
+    let used = store.used as usize;
+    let left = removal::remove_rows(rows, used, number) as u32;
+    let mut next = record::close(store, client);
+    next.used = left;
+    next
+}
+
+// 5: check commits above the snapshot for a shared cell.
+fn check(store: Store, rows: &mut [u8], commits: &[u8], client: u32) -> AdvanceTurn
+    requires { ⌜ client < clients ⌝ }
+    requires { ⌜ fits store (length (now rows)) (length (now commits)) ≡ true ⌝ }
+    ensures { λ r. ⌜ leaves (r .store) (now (rows .exit)) (now (commits .entry)) (advanceOf (r .answer)) ≡ laidOut store (now (rows .entry)) (now (commits .entry)) (check client (seen store (now (rows .entry)) (now (commits .entry)))) ⌝ }
+{
+    let k = client as usize;
+    let number = store.number[k];
+    let snapshot = store.snapshot[k];
+    let used = store.used as usize;
+    let entries = store.entries as usize;
+    let found = search::conflict(rows, used, commits, entries, number, snapshot);
+    match found {
+        Number::Some(n) => AdvanceTurn {
+            store: remove(store, rows, client),
+            answer: AdvanceAnswer::Answered(Progress::Conflict(n)),
+        },
+        Number::None => go_on(store, client, 6),
+    }
+}
+
+// 7: take a commit number.
+fn take_commit(store: Store, client: u32) -> AdvanceTurn
+    requires { ⌜ client < clients ⌝ }
+    ensures { λ r. ⌜ ((d c : List ℕ) → leaves (r .store) d c (advanceOf (r .answer)) ≡ laidOut store d c (takeCommit client (seen store d c))) ⌝ }
+{
+    if store.taken == 4294967295 {
+        return refuse(store, Refusal::Unfit);
+    }
+    let k = client as usize;
+    let n = store.taken + 1;
+    let mut next = store;
+    next.taken = n;
+    next.commit[k] = n;
+    go_on(next, client, 8)
+}
+
+// 9: list all other commit queue rows, once.
+fn list_commits(store: Store, client: u32) -> AdvanceTurn
+    requires { ⌜ client < clients ⌝ }
+    ensures { λ r. ⌜ ((d c : List ℕ) → leaves (r .store) d c (advanceOf (r .answer)) ≡ laidOut store d c (listCommits client (seen store d c))) ⌝ }
+{
+    let queue = Queue {
+        first: 7,
+        noted: 9,
+        last: 12,
+    };
+    let k = client as usize;
+    let list = record::others(queue, &store.stage, client);
+    let mut next = store;
+    next.ahead[k] = list;
+    go_on(next, client, 10)
+}
+
+// 10: look at the commit queue.
+fn look_commits(store: Store, client: u32) -> AdvanceTurn
+    requires { ⌜ client < clients ⌝ }
+    ensures { λ r. ⌜ ((d c : List ℕ) → leaves (r .store) d c (advanceOf (r .answer)) ≡ laidOut store d c (lookCommits client (seen store d c))) ⌝ }
+{
+    let queue = Queue {
+        first: 7,
+        noted: 9,
+        last: 12,
+    };
+    let k = client as usize;
+    let stage = store.stage;
+    let commit = store.commit;
+    let own = commit[k];
+    let list = record::look(queue, own, &stage, &commit, store.ahead[k]);
+    let mut next = store;
+    next.ahead[k] = list;
+    if list == 0 {
+        return go_on(next, client, 11);
+    }
+    AdvanceTurn {
+        store: next,
+        answer: AdvanceAnswer::Answered(Progress::Waiting(sets::count(list))),
+    }
+}
+
+// 11: add the committed row; it becomes the last commit.
+fn add_commit(store: Store, commits: &mut [u8], client: u32) -> AdvanceTurn
+    requires { ⌜ client < clients ⌝ }
+    requires { ⌜ 8 * store .rows ≤ length (now commits) ⌝ }
+    requires { ⌜ store .rows ≤ 1024 ⌝ }
+    ensures { λ r. ⌜ ((d : List ℕ) → leaves (r .store) d (now (commits .exit)) (advanceOf (r .answer)) ≡ laidOut store d (now (commits .entry)) (addCommit client (seen store d (now (commits .entry))))) ⌝ }
+{
+    if store.rows <= store.entries {
+        return refuse(store, Refusal::Unfit);
+    }
+    let k = client as usize;
+    let n = store.commit[k];
+    let tag = store.number[k];
+    let entries = store.entries as usize;
+    rows::append_commit(commits, entries, n, tag);
+    let mut next = store;
+    next.entries = store.entries + 1;
+    next.last = n;
+    next.stage[k] = 12;
+    AdvanceTurn {
+        store: next,
+        answer: AdvanceAnswer::Answered(Progress::Stage(12)),
+    }
+}
+
+// 12: leave the commit queue.
+fn leave_commits(store: Store, client: u32) -> AdvanceTurn
+    requires { ⌜ client < clients ⌝ }
+    ensures { λ r. ⌜ ((d c : List ℕ) → leaves (r .store) d c (advanceOf (r .answer)) ≡ laidOut store d c (leaveCommits client (seen store d c))) ⌝ }
+{
+    let ahead = store.ahead;
+    let lists = record::clear_all(ahead, client);
+    let mut next = store;
+    next.ahead = lists;
+    go_on(next, client, 13)
+}
+
+// 13: leave the request queue; closed.
+fn leave_requests(store: Store, client: u32) -> AdvanceTurn
+    requires { ⌜ client < clients ⌝ }
+    ensures { λ r. ⌜ ((d c : List ℕ) → leaves (r .store) d c (advanceOf (r .answer)) ≡ laidOut store d c (leaveRequests client (seen store d c))) ⌝ }
+{
+    let k = client as usize;
+    let n = store.commit[k];
+    let next = record::close(store, client);
+    AdvanceTurn {
+        store: next,
+        answer: AdvanceAnswer::Answered(Progress::Done(n)),
+    }
+}
+
+// The one step that the client's stage calls for.
+pub fn step(store: Store, rows: &mut [u8], commits: &mut [u8], client: u32) -> AdvanceTurn
+    requires { ⌜ client < clients ⌝ }
+    requires { ⌜ fits store (length (now rows)) (length (now commits)) ≡ true ⌝ }
+    ensures { λ r. ⌜ leaves (r .store) (now (rows .exit)) (now (commits .exit)) (advanceOf (r .answer)) ≡ laidOut store (now (rows .entry)) (now (commits .entry)) (getD steps (getD (store .stage) client 0) noStep client (seen store (now (rows .entry)) (now (commits .entry)))) ⌝ }
+{
+    let k = client as usize;
+    let stage = store.stage[k];
+    match stage {
+        0 => enter(store, rows, client),
+        1 => take_request(store, client),
+        2 => go_on(store, client, 3),
+        3 => list_requests(store, rows, client),
+        4 => look_requests(store, client),
+        5 => check(store, rows, commits, client),
+        6 => go_on(store, client, 7),
+        7 => take_commit(store, client),
+        8 => go_on(store, client, 9),
+        9 => list_commits(store, client),
+        10 => look_commits(store, client),
+        11 => add_commit(store, commits, client),
+        12 => leave_commits(store, client),
+        13 => leave_requests(store, client),
+        _ => refuse(store, Refusal::Unfit),
+    }
+}

@@ -1,0 +1,139 @@
+-- What the calls leave, by the facts that their code has found: one law for each way in which a call ends.
+-- Assumes nothing.
+use Prim.Native.Nat.{ℕ, _+_, _*_, _-_, _≤_, _<_}
+use mathlib.Core.Path.{_≡_, refl, sym, ap, _∙_}
+use mathlib.Core.Bool.{Bool, true, false, not}
+use mathlib.Core.List.{List, [], _∷_, _++_}
+use native.Mathlib.Omega.{arith}
+use borrow.Author.Tests.{le-leb, lt-leb, eq-eqb, ne-eqb}
+use lib.Dec.{eqb, leb}
+use lib.ListN.{length, getD, set, length-append, length-set}
+use Rattle.sets.specs.Set.{clients}
+use Rattle.rows.specs.Rows.{Row, rowsIn, laid, dataRow, withValue, filter, hasTag}
+use Rattle.rows.proofs.Rows.{length-rows, filter-fewer}
+use Rattle.rows.proofs.Laid.{laid-same}
+use Rattle.search.specs.declared.Found.{Found}
+use Rattle.search.specs.declared.Found.the-variants.{At, Missing}
+use Rattle.search.specs.declared.Own.{Own}
+use Rattle.search.specs.declared.Own.the-variants.{Row as OwnRow, Rows as OwnRows}
+use Rattle.search.specs.declared.Seen.{Seen}
+use Rattle.search.specs.Look.{isOwn, find, lookFor}
+use Rattle.search.specs.Share.{count, rowOrCount, cellsOf}
+use Rattle.search.proofs.Below.{find-below}
+use Rattle.removal.specs.Trim.{stays, inUse, trimmedRows, trimmedCommits}
+use Rattle.removal.specs.Kept.{Left, Trimmed}
+use Rattle.spec.specs.declared.Store.{Store}
+use Rattle.spec.specs.Answers.{Answer, Answered, cellLimit, noFreeRow}
+use Rattle.spec.specs.Calls.{Outcome, gives, refuse, reading, read, added, replaced, stored, write, removed, abandon, low, trimmedTo, trim}
+use Rattle.spec.specs.Bytes.{countersIn, clientsIn, recordOf, seen, storeOf, leaves, laidOut}
+use Rattle.spec.proofs.Ends.{ends}
+use Rattle.steps.specs.Removed.{Removed}
+
+-- what was found in one pass is what the definition looks for
+pub own-row : (f : Found) (n : ℕ) (o : Own) (j : ℕ) → o ≡ rowOrCount f n → o ≡ OwnRow j → f ≡ At j
+own-row (At i) n o j e g = let q : i ≡ j = cc in ap At q
+own-row Missing n o j e g = let z : _≡_ {A = ℕ} 0 1 = cc in absurd (nothing z)
+  where
+    nothing : _≡_ {A = ℕ} 0 1 → ⊥
+    nothing z = omega arith
+
+pub own-rows : (f : Found) (n : ℕ) (o : Own) (m : ℕ) → o ≡ rowOrCount f n → o ≡ OwnRows m → (f ≡ Missing) × (m ≡ n)
+own-rows (At i) n o m e g = let z : _≡_ {A = ℕ} 0 1 = cc in absurd (nothing z)
+  where
+    nothing : _≡_ {A = ℕ} 0 1 → ⊥
+    nothing z = omega arith
+own-rows Missing n o m e g = (refl, cc)
+
+module _ (s : Store) (d c : List ℕ) where
+  -- ---- Read
+
+  module _ (k x : ℕ) (h : k < clients) (g : x < 1024) (n : getD (s .number) k 0 ≡ 0 → ⊥) (t : getD (s .stage) k 0 ≡ 0) where
+    pub read-found : (o f : Seen) → o ≡ f → o ≡ lookFor (getD (s .number) k 0) x (getD (s .snapshot) k 0) (rowsIn 24 (s .used) d) (rowsIn 8 (s .entries) c)
+        → read k x (seen s d c) ≡ gives (seen s d c) (reading f)
+    unfolding read seen
+    read-found o f p e =
+        rw (lt-leb clients k h, lt-leb 1024 x g, ne-eqb (getD (s .number) k 0) 0 n, eq-eqb (getD (s .stage) k 0) 0 t, ← e, p)
+
+    -- ---- Write
+
+    pub write-stored : (v : List ℕ) (f : Found) → length v ≡ 16 → f ≡ find (isOwn (getD (s .number) k 0) x) 0 (rowsIn 24 (s .used) d)
+        → stored f k x v (seen s d c) ≡ write k x v (seen s d c)
+    unfolding write seen
+    write-stored v f l e =
+        rw (lt-leb clients k h, lt-leb 1024 x g, eq-eqb (length v) 16 l, ne-eqb (getD (s .number) k 0) 0 n, eq-eqb (getD (s .stage) k 0) 0 t, e)
+
+  module _ (k x : ℕ) (v : List ℕ) where
+    pub added-limit : leb (s .limit) (cellsOf (getD (s .number) k 0) (rowsIn 24 (s .used) d)) ≡ true → added k x v (seen s d c) ≡ refuse cellLimit (seen s d c)
+    unfolding added seen
+    added-limit h = rw h
+
+    module _ (h : leb (s .limit) (cellsOf (getD (s .number) k 0) (rowsIn 24 (s .used) d)) ≡ false) where
+      pub added-full : s .rows ≤ s .used → added k x v (seen s d c) ≡ refuse noFreeRow (seen s d c)
+      unfolding added seen
+      added-full g = rw (h, length-rows 24 (s .used) d, le-leb (s .rows) (s .used) g)
+
+      pub added-row : (d′ : List ℕ) → s .used < s .rows
+          → d′ ≡ laid 24 (s .used) (rowsIn 24 (s .used) d ++ (dataRow (getD (s .number) k 0) x v ∷ [])) d
+          → leaves (recordOf (s .rows) (s .limit) (countersIn s) (clientsIn s) (s .used + 1) (s .entries)) d′ c (Answered (s .rows - (s .used + 1)))
+          ≡ laidOut s d c (added k x v (seen s d c))
+      unfolding added seen storeOf
+      added-row d′ g e =
+          let r : Row = dataRow (getD (s .number) k 0) x v in
+          let n : length (rowsIn 24 (s .used) d ++ (r ∷ [])) ≡ s .used + 1 = length-append (rowsIn 24 (s .used) d) (r ∷ []) ∙ rw (length-rows 24 (s .used) d) in
+          rw (h, length-rows 24 (s .used) d, lt-leb (s .rows) (s .used) g)
+          (ends s d c _ _ _ _ _ (rw (n, length-rows 8 (s .entries) c)) e (sym (laid-same 8 (s .entries) c)) (rw n))
+
+    pub replaced-row : (j : ℕ) (d′ : List ℕ)
+        → d′ ≡ laid 24 (s .used) (set (rowsIn 24 (s .used) d) j (withValue v (getD (rowsIn 24 (s .used) d) j []))) d
+        → leaves s d′ c (Answered (s .rows - s .used)) ≡ laidOut s d c (replaced j v (seen s d c))
+    unfolding replaced seen storeOf
+    replaced-row j d′ e =
+        let n : length (set (rowsIn 24 (s .used) d) j (withValue v (getD (rowsIn 24 (s .used) d) j []))) ≡ s .used = simp (length-set, length-rows) in
+        ends s d c _ _ _ _ _ (rw (n, length-rows 8 (s .entries) c)) e (sym (laid-same 8 (s .entries) c)) (rw n)
+
+  -- ---- Abandon
+
+  pub abandon-removed : (k n : ℕ) → n ≡ removed k (seen s d c) .rows - length (removed k (seen s d c) .dataRows)
+      → k < clients → (getD (s .number) k 0 ≡ 0 → ⊥) → getD (s .stage) k 0 < 12 → gives (removed k (seen s d c)) n ≡ abandon k (seen s d c)
+  unfolding abandon seen
+  abandon-removed k n e h m t = rw (lt-leb clients k h, ne-eqb (getD (s .number) k 0) 0 m, lt-leb 12 (getD (s .stage) k 0) t, e)
+
+  -- the free figure after it
+  pub removed-figure : (k : ℕ) (s′ : Store) (d′ : List ℕ) → Removed k s d s′ d′
+      → s′ .rows - s′ .used ≡ removed k (seen s d c) .rows - length (removed k (seen s d c) .dataRows)
+  unfolding storeOf
+  removed-figure k s′ d′ r = ap (λ (x : Store). x .rows - x .used) (r .store c)
+
+  -- no more rows are left than there were
+  pub removed-fewer : (k : ℕ) → length (removed k (seen s d c) .dataRows) ≤ s .used
+  unfolding removed seen
+  removed-fewer k =
+      let p : Row → Bool = λ r. not (hasTag (getD (s .number) k 0) r) in
+      omega (arith, filter-fewer p (rowsIn 24 (s .used) d), length-rows 24 (s .used) d)
+
+  pub removed-within : (k : ℕ) (s′ : Store) (d′ : List ℕ) → Removed k s d s′ d′ → s .used ≤ s .rows → s′ .used ≤ s′ .rows
+  unfolding storeOf removed seen
+  removed-within k s′ d′ r h =
+      omega (arith, ap (λ (x : Store). x .rows) (r .store c), ap (λ (x : Store). x .used) (r .store c), removed-fewer k)
+
+  -- ---- Trim
+
+  pub trim-ends : (l n m : ℕ) (d′ c′ : List ℕ) → l ≡ low (seen s d c) → Trimmed l (s .used) (s .entries) d c d′ c′ n m
+      → leaves (recordOf (s .rows) (s .limit) (countersIn s) (clientsIn s) n m) d′ c′ (Answered (s .used - n)) ≡ laidOut s d c (trim (seen s d c))
+  unfolding trim trimmedTo seen storeOf
+  trim-ends l n m d′ c′ e t =
+      rw (← e)
+      (ends s d c _ _ _ _ _ (rw (t .data-rows .rows, t .commit-rows .rows)) (t .data-rows .bytes) (t .commit-rows .bytes)
+      (rw (t .data-rows .rows, length-rows 24 (s .used) d)))
+
+-- a trim leaves no more rows than there were
+pub trimmed-fewer : (l n m : ℕ) (d c d′ c′ : List ℕ) (n′ m′ : ℕ) → Trimmed l n m d c d′ c′ n′ m′ → (n′ ≤ n) × (m′ ≤ m)
+unfolding trimmedRows trimmedCommits
+trimmed-fewer l n m d c d′ c′ n′ m′ t = (
+  omega (arith, t .data-rows .rows, filter-fewer (stays l (rowsIn 24 n d) (rowsIn 8 m c)) (rowsIn 24 n d), length-rows 24 n d),
+  omega (arith, t .commit-rows .rows, filter-fewer (inUse (trimmedRows l (rowsIn 24 n d) (rowsIn 8 m c))) (rowsIn 8 m c), length-rows 8 m c),
+)
+
+-- a row that was found is in use
+pub found-below : (t x n : ℕ) (d : List ℕ) (j : ℕ) → find (isOwn t x) 0 (rowsIn 24 n d) ≡ At j → j < n
+found-below t x n d j e = omega (arith, find-below (isOwn t x) 0 j (rowsIn 24 n d) e, length-rows 24 n d)

@@ -1,0 +1,108 @@
+-- `store::abandon`: the refusals in the definition's order, then the rows removed and the client closed.
+-- Assumes nothing.
+use mathlib.Core.Path.{sym, ap, _∙_}
+use Prim.Native.Nat.{_-_}
+use native.Mathlib.Omega.{arith}
+use borrow.Author.Needs.{needs}
+use borrow.Author.Tests.{lt-leb, le-leb, eq-eqb, ne-eqb, not-true, not-false}
+use lib.ListN.{getD}
+use Rattle.sets.specs.Set.{clients}
+use Rattle.spec.specs.Calls.{abandon}
+use Rattle.spec.specs.Bytes.{seen, laidOut}
+use Rattle.spec.proofs.Ends.{fit-of, ends-unfit, goes, refuses}
+use Rattle.steps.proofs.Outcomes.{removed-ends}
+use Rattle.store.proofs.Outcomes.{abandon-removed, removed-figure, removed-within}
+use Rattle.store.proofs.abandon.Statement.{statement}
+use Rattle.store.proofs.abandon.Tie as tie
+
+-- Assumes nothing.
+
+-- Assumes nothing.
+
+fit-requires : tie.Need-fit-requires
+fit-requires c κs = search needs
+
+no-figure-requires : tie.Need-no-figure-requires
+no-figure-requires c κs = search needs
+
+returns : tie.Need-returns
+returns c = rw (c .no-figure .ensures) (ends-unfit _ _ _ _ (sym (c .before .before .fit .ensures) ∙ not-true _ (c .before .if1 .taken)))
+
+no-figure-requires-2 : tie.Need-no-figure-requires-2
+no-figure-requires-2 c κs = search needs
+
+returns-2 : tie.Need-returns-2
+unfolding abandon
+returns-2 c =
+    let a = c .before .before .before .before .before .before .args in
+    rw (c .no-figure2 .ensures) (refuses _ _ _ _ _ (sym (c .before .before .before .fit .ensures) ∙ not-false _ (c .before .before .if1 .left)) (rw (le-leb clients (a .client) (omega arith))))
+
+mul-if3 : tie.Need-mul-if3
+mul-if3 c = search needs
+
+element-copy-out-if3 : tie.Need-element-copy-out-if3
+element-copy-out-if3 c = search needs
+
+no-figure-requires-3 : tie.Need-no-figure-requires-3
+no-figure-requires-3 c κs = search needs
+
+returns-3 : tie.Need-returns-3
+unfolding abandon seen
+returns-3 c =
+    let a = c .before .before .before .before .before .before .before .before .args in
+    let s = a .t1 in
+    rw (c .no-figure3 .ensures) (refuses _ _ _ _ _ (sym (c .before .before .before .before .before .fit .ensures) ∙ not-false _ (c .before .before .before .before .if1 .left)) (rw (lt-leb clients (a .client) (omega arith), eq-eqb (getD (s .number) (a .client) 0) 0 (omega arith))))
+
+mul-if4 : tie.Need-mul-if4
+mul-if4 c = search needs
+
+element-copy-out-if4 : tie.Need-element-copy-out-if4
+element-copy-out-if4 c = search needs
+
+no-figure-requires-4 : tie.Need-no-figure-requires-4
+no-figure-requires-4 c κs = search needs
+
+returns-4 : tie.Need-returns-4
+unfolding abandon seen
+returns-4 c =
+    let a = c .before .before .before .before .before .before .before .before .before .before .args in
+    let s = a .t1 in
+    rw (c .no-figure4 .ensures) (refuses _ _ _ _ _ (sym (c .before .before .before .before .before .before .before .fit .ensures) ∙ not-false _ (c .before .before .before .before .before .before .if1 .left)) (rw (lt-leb clients (a .client) (omega arith), ne-eqb (getD (s .number) (a .client) 0) 0 (c .before .before .before .if3 .left), le-leb 12 (getD (s .stage) (a .client) 0) (omega arith))))
+
+remove-requires : tie.Need-remove-requires
+remove-requires c κs = let f = fit-of _ _ _ (sym (c .before .before .before .before .before .before .before .fit .ensures) ∙ not-false _ (c .before .before .before .before .before .before .if1 .left)) in (omega arith, (omega arith, omega arith))
+
+sub-t19 : tie.Need-sub-t19
+sub-t19 c = let f = fit-of _ _ _ (sym (c .before .before .before .before .before .before .before .before .before .before .before .fit .ensures) ∙ not-false _ (c .before .before .before .before .before .before .before .before .before .before .if1 .left)) in removed-within _ _ (c .before .before .before .before .before .before .before .before .before .before .before .before .before .before .args .commits .now) _ _ _ (c .before .before .before .remove .ensures) (f .dataRows)
+
+same-length : tie.Need-same-length
+same-length c = search needs
+
+returns-5 : tie.Need-returns-5
+returns-5 c =
+    let gone = c .before .before .before .remove .ensures in
+    goes _ _ _ _ (sym (c .before .before .before .before .before .before .before .before .before .before .before .fit .ensures) ∙ not-false _ (c .before .before .before .before .before .before .before .before .before .before .if1 .left))
+    (removed-ends _ _ _ _ _ _ _ gone
+    ∙ ap (laidOut _ _ _) (abandon-removed _ _ _ _ _ (removed-figure _ _ _ _ _ _ gone) (omega arith) (c .before .before .before .before .before .before .before .if3 .left) (omega arith)))
+
+pub abandon-spec : {M : Type 1} → statement M
+abandon-spec =
+    tie.close
+    (tie.spec
+    fit-requires
+    no-figure-requires
+    returns
+    no-figure-requires-2
+    returns-2
+    mul-if3
+    element-copy-out-if3
+    no-figure-requires-3
+    returns-3
+    mul-if4
+    element-copy-out-if4
+    no-figure-requires-4
+    returns-4
+    remove-requires
+    sub-t19
+    same-length
+    returns-5)

@@ -1,0 +1,81 @@
+-- `store::advance`: the refusals in the definition's order, then the step.
+-- Assumes nothing.
+use mathlib.Core.Path.{sym, _∙_}
+use native.Mathlib.Omega.{arith}
+use borrow.Author.Needs.{needs}
+use borrow.Author.Tests.{lt-leb, le-leb, eq-eqb, ne-eqb, not-true, not-false}
+use lib.ListN.{getD}
+use Rattle.sets.specs.Set.{clients}
+use Rattle.spec.specs.Steps.{advance}
+use Rattle.spec.specs.Bytes.{seen}
+use Rattle.spec.proofs.Ends.{ends-unfit, goes, refuses}
+use Rattle.store.proofs.advance.Statement.{statement}
+use Rattle.store.proofs.advance.Tie as tie
+
+fit-requires : tie.Need-fit-requires
+fit-requires c κs = search needs
+
+no-advance-requires : tie.Need-no-advance-requires
+no-advance-requires c κs = search needs
+
+returns : tie.Need-returns
+returns c = rw (c .no-advance .ensures) (ends-unfit _ _ _ _ (sym (c .before .before .fit .ensures) ∙ not-true _ (c .before .if1 .taken)))
+
+no-advance-requires-2 : tie.Need-no-advance-requires-2
+no-advance-requires-2 c κs = search needs
+
+returns-2 : tie.Need-returns-2
+unfolding advance
+returns-2 c =
+    let a = c .before .before .before .before .before .before .args in
+    rw (c .no-advance2 .ensures) (refuses _ _ _ _ _ (sym (c .before .before .before .fit .ensures) ∙ not-false _ (c .before .before .if1 .left)) (rw (le-leb clients (a .client) (omega arith))))
+
+mul-if3 : tie.Need-mul-if3
+mul-if3 c = search needs
+
+element-copy-out-if3 : tie.Need-element-copy-out-if3
+element-copy-out-if3 c = search needs
+
+no-advance-requires-3 : tie.Need-no-advance-requires-3
+no-advance-requires-3 c κs = search needs
+
+returns-3 : tie.Need-returns-3
+unfolding advance seen
+returns-3 c =
+    let a = c .before .before .before .before .before .before .before .before .args in
+    let s = a .t1 in
+    rw (c .no-advance3 .ensures) (refuses _ _ _ _ _ (sym (c .before .before .before .before .before .fit .ensures) ∙ not-false _ (c .before .before .before .before .if1 .left)) (rw (lt-leb clients (a .client) (omega arith), eq-eqb (getD (s .number) (a .client) 0) 0 (omega arith))))
+
+step-requires : tie.Need-step-requires
+step-requires c κs = (omega arith, (sym (c .before .before .before .before .before .before .fit .ensures) ∙ not-false _ (c .before .before .before .before .before .if1 .left)))
+
+same-length : tie.Need-same-length
+same-length c = search needs
+
+same-length-2 : tie.Need-same-length-2
+same-length-2 c = search needs
+
+returns-4 : tie.Need-returns-4
+unfolding advance seen
+returns-4 c =
+    let a = c .before .before .before .before .before .before .before .before .before .before .before .before .before .before .args in
+    let s = a .t1 in
+    goes _ _ _ _ (sym (c .before .before .before .before .before .before .before .before .before .before .before .fit .ensures) ∙ not-false _ (c .before .before .before .before .before .before .before .before .before .before .if1 .left)) (rw (lt-leb clients (a .client) (omega arith), ne-eqb (getD (s .number) (a .client) 0) 0 (c .before .before .before .before .before .before .before .if3 .left)) (c .before .before .before .before .step .ensures))
+
+pub advance-spec : {M : Type 1} → statement M
+advance-spec =
+    tie.close
+    (tie.spec
+    fit-requires
+    no-advance-requires
+    returns
+    no-advance-requires-2
+    returns-2
+    mul-if3
+    element-copy-out-if3
+    no-advance-requires-3
+    returns-3
+    step-requires
+    same-length
+    same-length-2
+    returns-4)

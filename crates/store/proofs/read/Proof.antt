@@ -1,0 +1,138 @@
+-- `store::read`: the refusals in the definition's order, then the row that was found.
+-- Assumes nothing.
+use mathlib.Core.Path.{sym, _∙_}
+use Prim.Native.Nat.{_-_}
+use native.Mathlib.Omega.{arith}
+use borrow.Author.Needs.{needs}
+use borrow.Author.Tests.{lt-leb, le-leb, eq-eqb, ne-eqb, not-true, not-false}
+use lib.ListN.{getD}
+use Rattle.sets.specs.Set.{clients}
+use Rattle.spec.specs.Calls.{read}
+use Rattle.spec.specs.Bytes.{seen}
+use Rattle.spec.proofs.Ends.{fit-of, ends-unfit, refuses}
+use Rattle.store.proofs.Outcomes.{read-found}
+use Rattle.store.proofs.read.Statement.{statement}
+use Rattle.store.proofs.read.Tie as tie
+
+-- Assumes nothing.
+
+-- Assumes nothing.
+
+fit-requires : tie.Need-fit-requires
+fit-requires c κs = search needs
+
+no-read-requires : tie.Need-no-read-requires
+no-read-requires c κs = search needs
+
+returns : tie.Need-returns
+returns c = rw (c .no-read .ensures) (ends-unfit _ _ _ _ (sym (c .before .before .fit .ensures) ∙ not-true _ (c .before .if1 .taken)))
+
+no-read-requires-2 : tie.Need-no-read-requires-2
+no-read-requires-2 c κs = search needs
+
+returns-2 : tie.Need-returns-2
+unfolding read
+returns-2 c =
+    let a = c .before .before .before .before .before .before .args in
+    rw (c .no-read2 .ensures) (refuses _ _ _ _ _ (sym (c .before .before .before .fit .ensures) ∙ not-false _ (c .before .before .if1 .left)) (rw (le-leb clients (a .client) (omega arith))))
+
+no-read-requires-3 : tie.Need-no-read-requires-3
+no-read-requires-3 c κs = search needs
+
+returns-3 : tie.Need-returns-3
+unfolding read
+returns-3 c =
+    let a = c .before .before .before .before .before .before .before .args in
+    rw (c .no-read3 .ensures) (refuses _ _ _ _ _ (sym (c .before .before .before .before .fit .ensures) ∙ not-false _ (c .before .before .before .if1 .left)) (rw (lt-leb clients (a .client) (omega arith), le-leb 1024 (a .cell) (omega arith))))
+
+mul-number : tie.Need-mul-number
+mul-number c = search needs
+
+element-copy-out-number : tie.Need-element-copy-out-number
+element-copy-out-number c = search needs
+
+no-read-requires-4 : tie.Need-no-read-requires-4
+no-read-requires-4 c κs = search needs
+
+returns-4 : tie.Need-returns-4
+unfolding read seen
+returns-4 c =
+    let a = c .before .before .before .before .before .before .before .before .before .args in
+    let s = a .t1 in
+    rw (c .no-read4 .ensures) (refuses _ _ _ _ _ (sym (c .before .before .before .before .before .before .fit .ensures) ∙ not-false _ (c .before .before .before .before .before .if1 .left)) (rw (lt-leb clients (a .client) (omega arith), lt-leb 1024 (a .cell) (omega arith), eq-eqb (getD (s .number) (a .client) 0) 0 (omega arith))))
+
+mul-if5 : tie.Need-mul-if5
+mul-if5 c = search needs
+
+element-copy-out-if5 : tie.Need-element-copy-out-if5
+element-copy-out-if5 c = search needs
+
+no-read-requires-5 : tie.Need-no-read-requires-5
+no-read-requires-5 c κs = search needs
+
+returns-5 : tie.Need-returns-5
+unfolding read seen
+returns-5 c =
+    let a = c .before .before .before .before .before .before .before .before .before .before .before .args in
+    let s = a .t1 in
+    rw (c .no-read5 .ensures) (refuses _ _ _ _ _ (sym (c .before .before .before .before .before .before .before .before .fit .ensures) ∙ not-false _ (c .before .before .before .before .before .before .before .if1 .left)) (rw (lt-leb clients (a .client) (omega arith), lt-leb 1024 (a .cell) (omega arith), ne-eqb (getD (s .number) (a .client) 0) 0 (c .before .before .before .if4 .left), ne-eqb (getD (s .stage) (a .client) 0) 0 (c .before .if5 .taken))))
+
+cast-used : tie.Need-cast-used
+cast-used c = search needs
+
+cast-entries : tie.Need-cast-entries
+cast-entries c = search needs
+
+mul-snapshot : tie.Need-mul-snapshot
+mul-snapshot c = search needs
+
+element-copy-out-snapshot : tie.Need-element-copy-out-snapshot
+element-copy-out-snapshot c = search needs
+
+look-for-requires : tie.Need-look-for-requires
+look-for-requires c κs = let f = fit-of _ _ _ (sym (c .before .before .before .before .before .before .before .before .fit .ensures) ∙ not-false _ (c .before .before .before .before .before .before .before .if1 .left)) in (omega arith, omega arith)
+
+enum-known-seen : tie.Need-enum-known-seen
+enum-known-seen c = search needs
+
+enum-told : tie.Need-enum-told
+enum-told c = search needs
+
+returns-6 : tie.Need-returns-6
+returns-6 c =
+    refuses _ _ _ _ _ (sym (c .before .before .before .before .before .before .before .before .before .before .before .before .fit .ensures) ∙ not-false _ (c .before .before .before .before .before .before .before .before .before .before .before .if1 .left))
+    (read-found _ _ _ _ _ (omega arith) (omega arith) (c .before .before .before .before .before .before .before .if4 .left) (c .before .before .before .before .before .if5 .left) _ _ (c .before .seen .given .1) (c .before .before .before .look-for .ensures))
+
+returns-7 : tie.Need-returns-7
+returns-7 c =
+    refuses _ _ _ _ _ (sym (c .before .before .before .before .before .before .before .before .before .before .before .fit .ensures) ∙ not-false _ (c .before .before .before .before .before .before .before .before .before .before .if1 .left))
+    (read-found _ _ _ _ _ (omega arith) (omega arith) (c .before .before .before .before .before .before .if4 .left) (c .before .before .before .before .if5 .left) _ _ (c .enum-told .given .1) (c .before .before .look-for .ensures))
+
+pub read-spec : {M : Type 1} → statement M
+read-spec =
+    tie.close
+    (tie.spec
+    fit-requires
+    no-read-requires
+    returns
+    no-read-requires-2
+    returns-2
+    no-read-requires-3
+    returns-3
+    mul-number
+    element-copy-out-number
+    no-read-requires-4
+    returns-4
+    mul-if5
+    element-copy-out-if5
+    no-read-requires-5
+    returns-5
+    cast-used
+    cast-entries
+    mul-snapshot
+    element-copy-out-snapshot
+    look-for-requires
+    enum-known-seen
+    enum-told
+    returns-6
+    returns-7)

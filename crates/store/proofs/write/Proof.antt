@@ -1,0 +1,164 @@
+-- `store::write`: the refusals in the definition's order, then the row.
+-- Assumes nothing.
+use mathlib.Core.Path.{sym, ap, _∙_}
+use Prim.Native.Nat.{_-_}
+use native.Mathlib.Omega.{arith}
+use borrow.Author.Needs.{needs}
+use borrow.Author.Tests.{lt-leb, le-leb, eq-eqb, ne-eqb, not-true, not-false}
+use lib.ListN.{getD, length}
+use Rattle.sets.specs.Set.{clients}
+use Rattle.rows.specs.Rows.{rowsIn}
+use Rattle.search.specs.Look.{isOwn, find}
+use Rattle.spec.specs.Calls.{write}
+use Rattle.spec.specs.Bytes.{seen, laidOut}
+use Rattle.spec.proofs.Ends.{fit-of, ends-unfit, goes, refuses}
+use Rattle.store.proofs.Outcomes.{own-row, own-rows, write-stored, found-below}
+use Rattle.search.specs.declared.Found.{Found}
+use Rattle.store.proofs.write.Statement.{statement}
+use Rattle.store.proofs.write.Tie as tie
+
+-- Assumes nothing.
+
+fit-requires : tie.Need-fit-requires
+fit-requires c κs = search needs
+
+no-figure-requires : tie.Need-no-figure-requires
+no-figure-requires c κs = search needs
+
+returns : tie.Need-returns
+returns c = rw (c .no-figure .ensures) (ends-unfit _ _ _ _ (sym (c .before .before .fit .ensures) ∙ not-true _ (c .before .if1 .taken)))
+
+no-figure-requires-2 : tie.Need-no-figure-requires-2
+no-figure-requires-2 c κs = search needs
+
+returns-2 : tie.Need-returns-2
+unfolding write
+returns-2 c =
+    let a = c .before .before .before .before .before .before .before .args in
+    rw (c .no-figure2 .ensures) (refuses _ _ _ _ _ (sym (c .before .before .before .fit .ensures) ∙ not-false _ (c .before .before .if1 .left)) (rw (le-leb clients (a .client) (omega arith))))
+
+no-figure-requires-3 : tie.Need-no-figure-requires-3
+no-figure-requires-3 c κs = search needs
+
+returns-3 : tie.Need-returns-3
+unfolding write
+returns-3 c =
+    let a = c .before .before .before .before .before .before .before .before .args in
+    rw (c .no-figure3 .ensures) (refuses _ _ _ _ _ (sym (c .before .before .before .before .fit .ensures) ∙ not-false _ (c .before .before .before .if1 .left)) (rw (lt-leb clients (a .client) (omega arith), le-leb 1024 (a .cell) (omega arith))))
+
+no-figure-requires-4 : tie.Need-no-figure-requires-4
+no-figure-requires-4 c κs = search needs
+
+returns-4 : tie.Need-returns-4
+unfolding write
+returns-4 c =
+    let a = c .before .before .before .before .before .before .before .before .before .args in
+    rw (c .no-figure4 .ensures) (refuses _ _ _ _ _ (sym (c .before .before .before .before .before .fit .ensures) ∙ not-false _ (c .before .before .before .before .if1 .left)) (rw (lt-leb clients (a .client) (omega arith), lt-leb 1024 (a .cell) (omega arith), ne-eqb (length (a .value .now)) 16 (c .before .if4 .taken))))
+
+mul-number : tie.Need-mul-number
+mul-number c = search needs
+
+element-copy-out-number : tie.Need-element-copy-out-number
+element-copy-out-number c = search needs
+
+no-figure-requires-5 : tie.Need-no-figure-requires-5
+no-figure-requires-5 c κs = search needs
+
+returns-5 : tie.Need-returns-5
+unfolding write seen
+returns-5 c =
+    let a = c .before .before .before .before .before .before .before .before .before .before .before .args in
+    let s = a .t1 in
+    rw (c .no-figure5 .ensures) (refuses _ _ _ _ _ (sym (c .before .before .before .before .before .before .before .fit .ensures) ∙ not-false _ (c .before .before .before .before .before .before .if1 .left)) (rw (lt-leb clients (a .client) (omega arith), lt-leb 1024 (a .cell) (omega arith), eq-eqb (length (a .value .now)) 16 (omega arith), eq-eqb (getD (s .number) (a .client) 0) 0 (omega arith))))
+
+mul-if6 : tie.Need-mul-if6
+mul-if6 c = search needs
+
+element-copy-out-if6 : tie.Need-element-copy-out-if6
+element-copy-out-if6 c = search needs
+
+no-figure-requires-6 : tie.Need-no-figure-requires-6
+no-figure-requires-6 c κs = search needs
+
+returns-6 : tie.Need-returns-6
+unfolding write seen
+returns-6 c =
+    let a = c .before .before .before .before .before .before .before .before .before .before .before .before .before .args in
+    let s = a .t1 in
+    rw (c .no-figure6 .ensures) (refuses _ _ _ _ _ (sym (c .before .before .before .before .before .before .before .before .before .fit .ensures) ∙ not-false _ (c .before .before .before .before .before .before .before .before .if1 .left)) (rw (lt-leb clients (a .client) (omega arith), lt-leb 1024 (a .cell) (omega arith), eq-eqb (length (a .value .now)) 16 (omega arith), ne-eqb (getD (s .number) (a .client) 0) 0 (c .before .before .before .if5 .left), ne-eqb (getD (s .stage) (a .client) 0) 0 (c .before .if6 .taken))))
+
+cast-used : tie.Need-cast-used
+cast-used c = search needs
+
+own-row-requires : tie.Need-own-row-requires
+own-row-requires c κs = let f = fit-of _ _ _ (sym (c .before .before .before .before .before .before .before .before .before .fit .ensures) ∙ not-false _ (c .before .before .before .before .before .before .before .before .if1 .left)) in omega arith
+
+enum-known-own : tie.Need-enum-known-own
+enum-known-own c = search needs
+
+replace-row-requires : tie.Need-replace-row-requires
+replace-row-requires c κs =
+    let a = c .before .before .before .before .before .before .before .before .before .before .before .before .before .before .before .before .before .before .args in
+    let f : Found = find (isOwn (getD (a .t1 .number) (a .client) 0) (a .cell)) 0 (rowsIn 24 (a .t1 .used) (a .rows .now)) in
+    let found = own-row f _ _ _ (c .before .before .before .before .own-row .ensures) (c .before .before .own .given .1) in
+    ((sym (c .before .before .before .before .before .before .before .before .before .before .before .before .before .before .fit .ensures) ∙ not-false _ (c .before .before .before .before .before .before .before .before .before .before .before .before .before .if1 .left)), (found-below _ _ _ _ _ found, omega arith))
+
+enum-known-own-2 : tie.Need-enum-known-own-2
+enum-known-own-2 c = search needs
+
+add-row-requires : tie.Need-add-row-requires
+add-row-requires c κs =
+    let a = c .before .before .before .before .before .before .before .before .before .before .before .before .before .before .before .before .before .before .args in
+    let f : Found = find (isOwn (getD (a .t1 .number) (a .client) 0) (a .cell)) 0 (rowsIn 24 (a .t1 .used) (a .rows .now)) in
+    let missing = own-rows f _ _ _ (c .before .before .before .before .own-row .ensures) (c .before .before .own2 .given .1) in
+    ((sym (c .before .before .before .before .before .before .before .before .before .before .before .before .before .before .fit .ensures) ∙ not-false _ (c .before .before .before .before .before .before .before .before .before .before .before .before .before .if1 .left)), (omega arith, (omega arith, (omega arith, missing .1))))
+
+same-length : tie.Need-same-length
+same-length c = search needs
+
+returns-7 : tie.Need-returns-7
+returns-7 c =
+    goes _ _ _ _ (sym (c .before .before .before .before .before .before .before .before .before .before .before .before .before .before .before .before .before .fit .ensures) ∙ not-false _ (c .before .before .before .before .before .before .before .before .before .before .before .before .before .before .before .before .if1 .left))
+    (c .before .before .replace-row .ensures
+    ∙ ap (laidOut _ _ _) (write-stored _ _ _ _ _ (omega arith) (omega arith) (c .before .before .before .before .before .before .before .before .before .before .before .if5 .left) (c .before .before .before .before .before .before .before .before .before .if6 .left) _ _ (omega arith) (sym (own-row _ _ _ _ (c .before .before .before .before .before .before .before .own-row .ensures) (c .before .before .before .before .before .own .given .1)))))
+
+same-length-2 : tie.Need-same-length-2
+same-length-2 c = search needs
+
+returns-8 : tie.Need-returns-8
+returns-8 c =
+    goes _ _ _ _ (sym (c .before .before .before .before .before .before .before .before .before .before .before .before .before .before .before .before .before .fit .ensures) ∙ not-false _ (c .before .before .before .before .before .before .before .before .before .before .before .before .before .before .before .before .if1 .left))
+    (c .before .before .add-row .ensures
+    ∙ ap (laidOut _ _ _) (write-stored _ _ _ _ _ (omega arith) (omega arith) (c .before .before .before .before .before .before .before .before .before .before .before .if5 .left) (c .before .before .before .before .before .before .before .before .before .if6 .left) _ _ (omega arith) (sym (own-rows _ _ _ _ (c .before .before .before .before .before .before .before .own-row .ensures) (c .before .before .before .before .before .own2 .given .1) .0))))
+
+pub write-spec : {M : Type 1} → statement M
+write-spec =
+    tie.close
+    (tie.spec
+    fit-requires
+    no-figure-requires
+    returns
+    no-figure-requires-2
+    returns-2
+    no-figure-requires-3
+    returns-3
+    no-figure-requires-4
+    returns-4
+    mul-number
+    element-copy-out-number
+    no-figure-requires-5
+    returns-5
+    mul-if6
+    element-copy-out-if6
+    no-figure-requires-6
+    returns-6
+    cast-used
+    own-row-requires
+    enum-known-own
+    replace-row-requires
+    enum-known-own-2
+    add-row-requires
+    same-length
+    returns-7
+    same-length-2
+    returns-8)
