@@ -1,2 +1,4 @@
+pub mod Folds
 pub mod Moving
+pub mod Places
 pub mod Newest

@@ -20,7 +20,9 @@ use Rattle.rows.specs.Rows.{Row, part, spliced, rowAt, rowsIn, rowsFrom, laid, 
 use Rattle.rows.proofs.Bytes.{spliced-next, take-spliced, drop-spliced, length-spliced, drop-later}
 use Rattle.rows.proofs.Rows.{rows-start, rows-step, rows-end, row-inside, row-length, length-rows, rows-wide, filter-wide}
 use Rattle.rows.proofs.Laid.{laid-fewer, laid-same, rows-laid}
-use Rattle.removal.specs.Trim.{stays, inUse, trimmedRows, trimmedCommits}
+use Rattle.search.specs.Look.{commitOf}
+use Rattle.removal.proofs.Folds.{to-start, filter-all}
+use Rattle.removal.specs.Trim.{overtaken, stays, inUse, trimmedRows, trimmedCommits}
 use Rattle.removal.specs.Kept.{keptFrom, otherTag, Flags, Left, Trimmed}
 
 -- ---- a word, and a row of words
@@ -211,35 +213,23 @@ flag-stays p flags w n s k h l e z = eqb-false 1 0 refl (sym (h .each k l ∙ rw
 -- flags that were made by a test keep the rows that pass it
 pub kept-where : (p : Row → Bool) (flags : List ℕ) (w n : ℕ) (s : List ℕ) → Flags p w n s flags → keptFrom flags 0 (rowsIn w n s) ≡ filter p (rowsIn w n s)
 unfolding filter keptFrom
-kept-where p flags w n s h = rw (rows-start w n s) (from n 0 (omega arith))
+kept-where p flags w n s h =
+    rw (rows-start w n s)
+    (to-start (λ i. keptFrom flags i (rowsFrom w n i s) ≡ filter p (rowsFrom w n i s)) n (rw (rows-end w n n s (omega arith))) (λ i l rest. step (p (rowAt w i s)) i refl l rest))
   where
     step : (b : Bool) (i : ℕ) → p (rowAt w i s) ≡ b → i < n
         → keptFrom flags (i + 1) (rowsFrom w n (i + 1) s) ≡ filter p (rowsFrom w n (i + 1) s)
         → keptFrom flags i (rowsFrom w n i s) ≡ filter p (rowsFrom w n i s)
-    step true i e l ih = kept-one flags w n i s l (flag-stays p flags w n s i h l e) ∙ rw (rows-step w n i s l, e, ih)
-    step false i e l ih = kept-none flags w n i s l (h .each i l ∙ rw e) ∙ rw (rows-step w n i s l, e, ih)
-
-    from : (m i : ℕ) → m + i ≡ n → keptFrom flags i (rowsFrom w n i s) ≡ filter p (rowsFrom w n i s)
-    from zero i e = rw (rows-end w n i s (omega arith))
-    from (suc m) i e = step (p (rowAt w i s)) i refl (omega arith) (from m (i + 1) (omega arith))
+    step true i e l rest = kept-one flags w n i s l (flag-stays p flags w n s i h l e) ∙ rw (rows-step w n i s l, e, rest)
+    step false i e l rest = kept-none flags w n i s l (h .each i l ∙ rw e) ∙ rw (rows-step w n i s l, e, rest)
 
 -- where no flag is 0 all rows stay
 pub kept-all : (flags : List ℕ) (w n : ℕ) (s : List ℕ) → ((k : ℕ) → k < n → getD flags k 0 ≡ 0 → ⊥) → keptFrom flags 0 (rowsIn w n s) ≡ rowsIn w n s
 unfolding keptFrom
-kept-all flags w n s h = rw (rows-start w n s) (from n 0 (omega arith))
-  where
-    from : (m i : ℕ) → m + i ≡ n → keptFrom flags i (rowsFrom w n i s) ≡ rowsFrom w n i s
-    from zero i e = rw (rows-end w n i s (omega arith))
-    from (suc m) i e = kept-one flags w n i s (omega arith) (h i (omega arith)) ∙ rw (from m (i + 1) (omega arith)) (sym (rows-step w n i s (omega arith)))
-
--- where all rows pass all stay
-pub filter-all : (p : Row → Bool) (w n : ℕ) (s : List ℕ) → ((k : ℕ) → k < n → p (rowAt w k s) ≡ true) → filter p (rowsIn w n s) ≡ rowsIn w n s
-unfolding filter
-filter-all p w n s h = rw (rows-start w n s) (from n 0 (omega arith))
-  where
-    from : (m i : ℕ) → m + i ≡ n → filter p (rowsFrom w n i s) ≡ rowsFrom w n i s
-    from zero i e = rw (rows-end w n i s (omega arith))
-    from (suc m) i e = rw (rows-step w n i s (omega arith), h i (omega arith), from m (i + 1) (omega arith))
+kept-all flags w n s h =
+    rw (rows-start w n s)
+    (to-start (λ i. keptFrom flags i (rowsFrom w n i s) ≡ rowsFrom w n i s) n (rw (rows-end w n n s (omega arith)))
+    (λ i l rest. kept-one flags w n i s l (h i l) ∙ rw rest (sym (rows-step w n i s l))))
 
 pub left-all : (w n : ℕ) (s : List ℕ) (rs : List Row) → rs ≡ rowsIn w n s → Left w n rs s s n
 left-all w n s rs e = record { rows = rw e (sym (length-rows w n s)); bytes = rw e (sym (laid-same w n s)) }
@@ -277,3 +267,12 @@ trimmed low n m s c flags marks s′ c′ n′ m′ l f first g second =
     let rows : rowsIn 24 n′ s′ ≡ left = rw (one .rows, one .bytes) (rows-laid 24 n left s (filter-wide 24 p (rowsIn 24 n s) (rows-wide 24 n s l))) in
     let two : Left 8 m (filter (inUse (rowsIn 24 n′ s′)) (rowsIn 8 m c)) c c′ m′ = rw (kept-where (inUse (rowsIn 24 n′ s′)) marks 8 m c g) at second in
     record { data-rows = one; commit-rows = rw rows at two }
+
+-- no row is committed
+pub untrimmed : (low n : ℕ) (s c : List ℕ) → Trimmed low n 0 s c s c n 0
+unfolding trimmedRows trimmedCommits filter stays overtaken commitOf rowsIn
+untrimmed low n s c =
+    record {
+      data-rows = left-all 24 n s _ (filter-all (stays low (rowsIn 24 n s) []) 24 n s (λ k h. refl));
+      commit-rows = left-all 8 0 c [] refl;
+    }

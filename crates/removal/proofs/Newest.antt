@@ -2,75 +2,25 @@
 -- the newest of its cell: what is wanted of all rows, `any` row later than n, is at every turn that n is below the newest so far, or any
 -- later one among the rows to come.
 -- Assumes nothing.
-use Prim.Native.Nat.{ℕ, zero, suc, _+_, _≤_, _<_}
+use Prim.Native.Nat.{ℕ, _+_, _≤_, _<_}
 use mathlib.Core.Path.{_≡_, refl, sym, ap, _∙_}
 use mathlib.Core.Bool.{Bool, true, false, not}
 use mathlib.Core.List.{List, [], _∷_}
 use lib.Dec.{eqb, ltb, leb}
 use lib.ListN.{length, getD, set, replicate, length-set, getD-replicate}
 use lib.Seq.{getD-set-same, getD-set-other}
-use native.Mathlib.Decide.{decLt}
 use native.Mathlib.Omega.{arith}
-use borrow.Author.Tests.{ltb-true, ltb-false, leb-true, leb-false, eqb-true, eqb-false, lt-ltb, le-ltb, le-leb, lt-leb, eq-eqb, ne-eqb}
+use borrow.Author.Tests.{ltb-true, ltb-false, leb-true, eqb-true, eqb-false, lt-ltb, le-ltb, le-leb, lt-leb}
 use Rattle.sets.specs.Choice.{if_then_else_}
-use Rattle.rows.specs.Rows.{Row, rowAt, rowsIn, rowsFrom, tagOf, cellOf, hasTag}
-use Rattle.rows.proofs.Rows.{rows-start, rows-step, rows-end}
+use Rattle.rows.specs.Rows.{Row, rowAt, rowsIn, rowsFrom, tagOf, cellOf}
+use Rattle.rows.proofs.Rows.{rows-start}
 use Rattle.search.specs.Look.{commitOf}
 use Rattle.search.specs.Share.{any}
-use Rattle.search.specs.Passes.{Next}
 use Rattle.search.specs.declared.Number.{Number}
 use Rattle.search.specs.declared.Number.the-variants.{Some, None}
 use Rattle.removal.specs.Trim.{between, later, overtaken, stays}
 use Rattle.removal.specs.Newest.{numberOr, Noted, Newest}
-
--- ---- any
-
-module _ (p : Row → Bool) (w n : ℕ) (s : List ℕ) where
-  pub any-step : (i : ℕ) → i < n → any p (rowsFrom w n i s) ≡ (if p (rowAt w i s) then true else any p (rowsFrom w n (i + 1) s))
-  unfolding any
-  any-step i h = rw (rows-step w n i s h)
-
-  pub any-end : (i : ℕ) → n ≤ i → any p (rowsFrom w n i s) ≡ false
-  unfolding any
-  any-end i h = rw (rows-end w n i s h)
-
-  -- a row that passes, and no row that passes
-  pub any-at : (k : ℕ) → k < n → p (rowAt w k s) ≡ true → any p (rowsIn w n s) ≡ true
-  any-at k h e = rw (rows-start w n s) (from k 0 (omega arith))
-    where
-      either : (b : Bool) → (if b then true else true) ≡ true
-      either true = refl
-      either false = refl
-
-      from : (m i : ℕ) → m + i ≡ k → any p (rowsFrom w n i s) ≡ true
-      from zero i q =
-          let z : i ≡ k = omega arith in
-          any-step i (omega arith) ∙ rw (z, e)
-      from (suc m) i q = any-step i (omega arith) ∙ rw (from m (i + 1) (omega arith)) (either (p (rowAt w i s)))
-
-  pub any-none : ((k : ℕ) → k < n → p (rowAt w k s) ≡ false) → any p (rowsIn w n s) ≡ false
-  any-none h = rw (rows-start w n s) (from n 0 (omega arith))
-    where
-      from : (m i : ℕ) → m + i ≡ n → any p (rowsFrom w n i s) ≡ false
-      from zero i q = any-end i (omega arith)
-      from (suc m) i q = any-step i (omega arith) ∙ rw (h i (omega arith), from m (i + 1) (omega arith))
-
--- ---- a row with a tag
-
-pub tag-found : (tag n k : ℕ) (s : List ℕ) → k < n → tagOf (rowAt 24 k s) ≡ tag → any (hasTag tag) (rowsIn 24 n s) ≡ true
-unfolding hasTag
-tag-found tag n k s h e = any-at (hasTag tag) 24 n s k h (eq-eqb _ _ e)
-
--- a search from a row on, and one before it, that find nothing
-pub tag-missing : (tag from n : ℕ) (s : List ℕ)
-    → Next (λ k. tagOf (rowAt 24 k s) ≡ tag) from n n → Next (λ k. tagOf (rowAt 24 k s) ≡ tag) 0 from from
-    → any (hasTag tag) (rowsIn 24 n s) ≡ false
-unfolding hasTag
-tag-missing tag from n s a b = any-none (hasTag tag) 24 n s (λ k h. ne-eqb _ _ (missed k h (decLt k from)))
-  where
-    missed : (k : ℕ) → k < n → Dec (k < from) → tagOf (rowAt 24 k s) ≡ tag → ⊥
-    missed k h (yes l) = b .misses k (omega arith) l
-    missed k h (no l) = a .misses k (omega (arith, l)) h
+use Rattle.removal.proofs.Folds.{if-same, if-itself, not-both, any-step, any-end}
 
 -- ---- numbers
 
@@ -78,11 +28,7 @@ tag-missing tag from n s a b = any-none (hasTag tag) 24 n s (λ k h. ne-eqb _ _ 
 pub between-number : (n low : ℕ) (x : Number) → low < 18446744073709551615 → between n low x ≡ (if ltb n (numberOr x) then leb (numberOr x) low else false)
 unfolding between numberOr
 between-number n low (Some m) h = refl
-between-number n low None h = rw (lt-leb 18446744073709551615 low h) (go (ltb n 18446744073709551615))
-  where
-    go : (b : Bool) → false ≡ (if b then false else false)
-    go true = refl
-    go false = refl
+between-number n low None h = rw (lt-leb 18446744073709551615 low h) (sym (if-same (ltb n 18446744073709551615) false))
 
 between-above : (n low : ℕ) (x : Number) → low ≤ n → between n low x ≡ false
 unfolding between
@@ -94,7 +40,7 @@ between-above n low (Some m) h = go (ltb n m) refl
     go false e = refl
 
 -- nothing overtakes a row above low, or one that is not committed
-pub above-low : (low : ℕ) (ds cs : List Row) (cell : ℕ) (x : Number) → low < numberOr x → overtaken low ds cs cell x ≡ false
+above-low : (low : ℕ) (ds cs : List Row) (cell : ℕ) (x : Number) → low < numberOr x → overtaken low ds cs cell x ≡ false
 unfolding overtaken numberOr any later
 above-low low ds cs cell None h = refl
 above-low low ds cs cell (Some n) h = none ds
@@ -107,7 +53,7 @@ above-low low ds cs cell (Some n) h = none ds
     none [] = refl
     none (q ∷ qs) = rw (test (eqb (cellOf q) cell) q) (none qs)
 
-pub up-to-low : (low : ℕ) (ds cs : List Row) (cell : ℕ) (x : Number) → low < 18446744073709551615 → numberOr x ≤ low
+up-to-low : (low : ℕ) (ds cs : List Row) (cell : ℕ) (x : Number) → low < 18446744073709551615 → numberOr x ≤ low
     → overtaken low ds cs cell x ≡ any (later cs low cell (numberOr x)) ds
 unfolding overtaken numberOr
 up-to-low low ds cs cell None h g = absurd (omega arith)
@@ -119,11 +65,6 @@ up-to-low low ds cs cell (Some n) h g = refl
 pub noted-same : (l : List ℕ) (cell number low : ℕ) → length l ≡ 1024 → (cell < 1024 → number ≤ low → number ≤ getD l cell 0) → Noted low cell number l l
 noted-same l cell number low e h = record { size = e; each = λ x m g. absorb (ltb m (getD l x 0)) _ (by-cell x m g (eqb cell x) refl) }
   where
-    no : _≡_ {A = Bool} false true → ⊥
-    no e =
-        let z : _≡_ {A = ℕ} 0 1 = cc in
-        omega arith
-
     absorb : (b z : Bool) → (z ≡ true → b ≡ true) → b ≡ (if b then true else z)
     absorb true z e = refl
     absorb false true e = e refl
@@ -131,28 +72,20 @@ noted-same l cell number low e h = record { size = e; each = λ x m g. absorb (l
 
     by-number : (m : ℕ) (b : Bool) → cell < 1024 → ltb m number ≡ b → (if b then leb number low else false) ≡ true → m < getD l cell 0
     by-number m true g f z = omega (arith, h g (leb-true number low z), ltb-true m number f)
-    by-number m false g f z = absurd (no z)
+    by-number m false g f z = absurd (not-both false refl z)
 
     by-cell : (x m : ℕ) → x < 1024 → (b : Bool) → eqb cell x ≡ b → (if b then (if ltb m number then leb number low else false) else false) ≡ true → ltb m (getD l x 0) ≡ true
     by-cell x m g true f z =
         let same : cell ≡ x = eqb-true cell x f in
         rw (← same) (lt-ltb m (getD l cell 0) (by-number m (ltb m number) (omega arith) refl z))
-    by-cell x m g false f z = absurd (no z)
+    by-cell x m g false f z = absurd (not-both false refl z)
 
 -- the row's number is the newest
 pub noted-newer : (l : List ℕ) (cell number low : ℕ) → length l ≡ 1024 → cell < 1024 → number ≤ low → getD l cell 0 < number → Noted low cell number l (set l cell number)
 noted-newer l cell number low e h g b = record { size = simp length-set e; each = λ x m k. by-cell x m (eqb cell x) refl }
   where
-    only : (t : Bool) → t ≡ (if t then true else false)
-    only true = refl
-    only false = refl
-
-    either : (t : Bool) → true ≡ (if t then true else true)
-    either true = refl
-    either false = refl
-
     by-number : (m : ℕ) (t : Bool) → ltb m number ≡ t → ltb m number ≡ (if ltb m (getD l cell 0) then true else (if ltb m number then leb number low else false))
-    by-number m true f = rw (f, le-leb number low g) (either (ltb m (getD l cell 0)))
+    by-number m true f = rw (f, le-leb number low g) (sym (if-same (ltb m (getD l cell 0)) true))
     by-number m false f = rw (f, le-ltb m (getD l cell 0) (omega (arith, ltb-false m number f)))
 
     by-cell : (x m : ℕ) (t : Bool) → eqb cell x ≡ t
@@ -160,7 +93,7 @@ noted-newer l cell number low e h g b = record { size = simp length-set e; each 
     by-cell x m true f =
         let same : cell ≡ x = eqb-true cell x f in
         rw (← same, getD-set-same l cell number 0 (omega arith)) (by-number m (ltb m number) refl)
-    by-cell x m false f = rw (getD-set-other l cell x number 0 (λ z. eqb-false cell x f (sym z))) (only (ltb m (getD l x 0)))
+    by-cell x m false f = rw (getD-set-other l cell x number 0 (λ z. eqb-false cell x f (sym z))) (sym (if-itself (ltb m (getD l x 0))))
 
 -- what is wanted of all rows: before any is noted, one row more, and after all
 abbrev pub Wanted : List Row → ℕ → ℕ → List ℕ → List ℕ → ℕ → Type 0
@@ -183,11 +116,7 @@ module _ (cs : List Row) (low n : ℕ) (s l : List ℕ) where
       go false z y = refl
 
   pub newest-end : (i : ℕ) → n ≤ i → Wanted cs low n s l i → Newest low cs (rowsIn 24 n s) l
-  newest-end i h wanted = record { each = λ x m g. sym (wanted x m g ∙ rw (any-end (later cs low x m) 24 n s i h) (sym (only (ltb m (getD l x 0))))) }
-    where
-      only : (t : Bool) → t ≡ (if t then true else false)
-      only true = refl
-      only false = refl
+  newest-end i h wanted = record { each = λ x m g. sym (wanted x m g ∙ rw (any-end (later cs low x m) 24 n s i h) (if-itself (ltb m (getD l x 0)))) }
 
 -- ---- the rows that stay
 

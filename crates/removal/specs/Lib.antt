@@ -1,3 +1,4 @@
 pub mod Trim
 pub mod Kept
+pub mod Places
 pub mod Newest

@@ -19,7 +19,8 @@ unfoldable pub numberOr : Number → ℕ
 numberOr None = 18446744073709551615
 numberOr (Some n) = n
 
--- for each cell x below 1,024 the largest number noted (0 for none): a row with that number, where it is at most low, is noted for its cell
+-- l has the largest number noted for each cell below 1,024 (0 for none), and l′ has noted one row more: a row of that cell with that number,
+-- which counts where it is at most low
 pub record Noted (low cell number : ℕ) (l l′ : List ℕ) : Type 0 where
   pub size : length l′ ≡ 1024
   pub each : (x m : ℕ) → x < 1024 → ltb m (getD l′ x 0) ≡ (if ltb m (getD l x 0) then true else (if eqb cell x then (if ltb m number then leb number low else false) else false))

@@ -3,14 +3,14 @@ ghost use mathlib.Core.Path.{_≡_};
 ghost use mathlib.Core.List.{List, _++_, flatten};
 ghost use Prim.Native.Nat.{ℕ, _+_, _*_, _≤_, _<_};
 ghost use lib.ListN.{length, getD, drop, replicate};
-ghost use lib.Dec.{ltb};
 ghost use Rattle.sets.specs.Choice.{if_then_else_};
-ghost use Rattle.rows.specs.Rows.{Row, part, spliced, rowAt, rowsIn, tagOf, cellOf, commitTag, filter, hasTag};
+ghost use Rattle.rows.specs.Rows.{Row, part, spliced, rowAt, rowsIn, tagOf, commitTag, filter, hasTag};
 ghost use Rattle.search.specs.Look.{commitOf};
 ghost use Rattle.search.specs.Share.{any};
 ghost use Rattle.search.specs.Passes.{Next};
 ghost use Rattle.removal.specs.Trim.{later, stays, inUse};
 ghost use Rattle.removal.specs.Kept.{keptFrom, otherTag, Flags, Left, Trimmed};
+ghost use Rattle.removal.specs.Places.{place, Places};
 ghost use Rattle.removal.specs.Newest.{numberOr, Noted, Numbers, Newest};
 use search::Number;
 
@@ -157,18 +157,83 @@ pub fn remove_rows(rows: &mut [u8], used: usize, tag: u32) -> usize
     compact(rows, 3, first, used, &flags)
 }
 
+// ---- a table of places for tags: a row is found by its tag at once, unless the tag meets another in its place
+
+fn place_of(tag: u32) -> usize
+    ensures { λ r. ⌜ (r ≡ place tag) × (r < 4096) ⌝ }
+{
+    ((tag as u64) * 2654435769 / 1048576 % 4096) as usize
+}
+
+// For the committed rows.
+fn commit_places(commits: &[u8], entries: usize) -> [u16; 4096]
+    requires { ⌜ 8 * entries ≤ length (now commits) ⌝ }
+    requires { ⌜ entries ≤ 1024 ⌝ }
+    ensures { λ r. ⌜ Places (λ k. commitTag (rowAt 8 k (now (commits .entry)))) entries r ⌝ }
+{
+    let mut places = [0u16; 4096];
+    let mut i = entries;
+    while 0 < i {
+        let x = place_of(rows::commit_tag_at(commits, i - 1));
+        places[x] = i as u16;
+        i -= 1;
+    }
+    places
+}
+
+// For the data rows.
+fn row_places(rows: &[u8], used: usize) -> [u16; 4096]
+    requires { ⌜ 24 * used ≤ length (now rows) ⌝ }
+    requires { ⌜ used ≤ 1024 ⌝ }
+    ensures { λ r. ⌜ Places (λ k. tagOf (rowAt 24 k (now (rows .entry)))) used r ⌝ }
+{
+    let mut places = [0u16; 4096];
+    let mut i = used;
+    while 0 < i {
+        let x = place_of(rows::tag_at(rows, i - 1));
+        places[x] = i as u16;
+        i -= 1;
+    }
+    places
+}
+
 // ---- Trim: see specs/Trim.antt for what it keeps
 
-// The number that a tag is committed under; commit is that of the tag last, which is not looked up again.
-fn commit_again(commits: &[u8], entries: usize, last: u32, commit: Number, tag: u32) -> Number
+// The number that a tag is committed under.
+fn commit_at(commits: &[u8], entries: usize, places: &[u16; 4096], tag: u32) -> Number
     requires { ⌜ 8 * entries ≤ length (now commits) ⌝ }
+    requires { ⌜ Places (λ k. commitTag (rowAt 8 k (now commits))) entries (now places) ⌝ }
+    ensures { λ r. ⌜ r ≡ commitOf tag (rowsIn 8 entries (now (commits .entry))) ⌝ }
+{
+    let x = place_of(tag);
+    let at = places[x] as usize;
+    if at == 0 {
+        return Number::None;
+    }
+    if rows::commit_tag_at(commits, at - 1) == tag {
+        return Number::Some(rows::commit_number_at(commits, at - 1));
+    }
+    search::commit_of(commits, entries, tag)
+}
+
+// The same, where commit is that of the tag last, which is not looked up again.
+fn commit_again(
+    commits: &[u8],
+    entries: usize,
+    places: &[u16; 4096],
+    last: u32,
+    commit: Number,
+    tag: u32,
+) -> Number
+    requires { ⌜ 8 * entries ≤ length (now commits) ⌝ }
+    requires { ⌜ Places (λ k. commitTag (rowAt 8 k (now commits))) entries (now places) ⌝ }
     requires { ⌜ commit ≡ commitOf last (rowsIn 8 entries (now commits)) ⌝ }
     ensures { λ r. ⌜ r ≡ commitOf tag (rowsIn 8 entries (now (commits .entry))) ⌝ }
 {
     if tag == last {
         return commit;
     }
-    search::commit_of(commits, entries, tag)
+    commit_at(commits, entries, places, tag)
 }
 
 // A commit number, and one above all of them where there is none.
@@ -209,17 +274,19 @@ fn note_rows(
     requires { ⌜ 24 * used ≤ length (now rows) ⌝ }
     requires { ⌜ used ≤ 1024 ⌝ }
     requires { ⌜ 8 * entries ≤ length (now commits) ⌝ }
+    requires { ⌜ entries ≤ 1024 ⌝ }
     requires { ⌜ now newest ≡ replicate 1024 0 ⌝ }
     ensures { λ r. ⌜ Numbers used (rowsIn 8 entries (now (commits .entry))) (now (rows .entry)) r ⌝ }
     ensures { λ _. ⌜ Newest low (rowsIn 8 entries (now (commits .entry))) (rowsIn 24 used (now (rows .entry))) (now (newest .exit)) ⌝ }
 {
+    let places = commit_places(commits, entries);
     let mut numbers = [0u64; 1024];
     let mut last = 0;
-    let mut commit = search::commit_of(commits, entries, 0);
+    let mut commit = commit_at(commits, entries, &places, 0);
     let mut i = 0;
     while i < used {
         let tag = rows::tag_at(rows, i);
-        commit = commit_again(commits, entries, last, commit, tag);
+        commit = commit_again(commits, entries, &places, last, commit, tag);
         last = tag;
         let number = number_or(commit);
         numbers[i] = number;
@@ -298,6 +365,7 @@ fn stay_flags(rows: &[u8], used: usize, commits: &[u8], entries: usize, low: u32
     requires { ⌜ 24 * used ≤ length (now rows) ⌝ }
     requires { ⌜ used ≤ 1024 ⌝ }
     requires { ⌜ 8 * entries ≤ length (now commits) ⌝ }
+    requires { ⌜ entries ≤ 1024 ⌝ }
     ensures { λ r. ⌜ Flags (stays low (rowsIn 24 used (now (rows .entry))) (rowsIn 8 entries (now (commits .entry)))) 24 used (now (rows .entry)) r ⌝ }
 {
     let mut newest = [0u64; 1024];
@@ -311,42 +379,39 @@ fn stay_flags(rows: &[u8], used: usize, commits: &[u8], entries: usize, low: u32
     flags
 }
 
-// A data row with that tag, looked for from row from on and then before it; left where there is none.
-fn tag_around(rows: &[u8], from: usize, left: usize, tag: u32) -> usize
+// 1 where a data row has that tag, 0 where none has.
+fn use_flag(rows: &[u8], left: usize, places: &[u16; 4096], tag: u32) -> u8
     requires { ⌜ 24 * left ≤ length (now rows) ⌝ }
-    requires { ⌜ from ≤ left ⌝ }
-    ensures { λ r. ⌜ r ≤ left ⌝ }
-    ensures { λ r. ⌜ ltb r left ≡ any (hasTag tag) (rowsIn 24 left (now (rows .entry))) ⌝ }
+    requires { ⌜ Places (λ k. tagOf (rowAt 24 k (now rows))) left (now places) ⌝ }
+    ensures { λ r. ⌜ r ≡ (if any (hasTag tag) (rowsIn 24 left (now (rows .entry))) then 1 else 0) ⌝ }
 {
-    let at = search::next_tag(rows, from, left, tag);
-    if at < left {
-        return at;
+    let x = place_of(tag);
+    let at = places[x] as usize;
+    if at == 0 {
+        return 0;
     }
-    let before = search::next_tag(rows, 0, from, tag);
-    if before < from {
-        return before;
+    if rows::tag_at(rows, at - 1) == tag {
+        return 1;
     }
-    left
+    if search::next_tag(rows, at, left, tag) < left {
+        return 1;
+    }
+    0
 }
 
-// Flags for the committed rows with a data row left. Each search starts where the last one hit: rows of one order are found at once.
+// Flags for the committed rows with a data row left.
 fn commit_flags(rows: &[u8], left: usize, commits: &[u8], entries: usize) -> [u8; 1024]
     requires { ⌜ 24 * left ≤ length (now rows) ⌝ }
+    requires { ⌜ left ≤ 1024 ⌝ }
     requires { ⌜ 8 * entries ≤ length (now commits) ⌝ }
     requires { ⌜ entries ≤ 1024 ⌝ }
     ensures { λ r. ⌜ Flags (inUse (rowsIn 24 left (now (rows .entry)))) 8 entries (now (commits .entry)) r ⌝ }
 {
+    let places = row_places(rows, left);
     let mut flags = [0u8; 1024];
-    let mut from = 0;
     let mut i = 0;
     while i < entries {
-        let at = tag_around(rows, from, left, rows::commit_tag_at(commits, i));
-        if at < left {
-            flags[i] = 1;
-            from = at;
-        } else {
-            flags[i] = 0;
-        }
+        flags[i] = use_flag(rows, left, &places, rows::commit_tag_at(commits, i));
         i += 1;
     }
     flags
@@ -358,7 +423,7 @@ pub struct Remaining {
     pub commits: usize,
 }
 
-// Drops the data rows that newer ones up to low overtake, and then the committed rows with no data row left.
+// Drops the data rows that newer ones up to low overtake, and then the committed rows with no data row left. Where no row is committed none goes.
 pub fn trim(rows: &mut [u8], used: usize, commits: &mut [u8], entries: usize, low: u32) -> Remaining
     requires { ⌜ 24 * used ≤ length (now rows) ⌝ }
     requires { ⌜ used ≤ 1024 ⌝ }
@@ -366,6 +431,12 @@ pub fn trim(rows: &mut [u8], used: usize, commits: &mut [u8], entries: usize, lo
     requires { ⌜ entries ≤ 1024 ⌝ }
     ensures { λ r. ⌜ Trimmed low used entries (now (rows .entry)) (now (commits .entry)) (now (rows .exit)) (now (commits .exit)) (r .rows) (r .commits) ⌝ }
 {
+    if entries == 0 {
+        return Remaining {
+            rows: used,
+            commits: 0,
+        };
+    }
     let flags = stay_flags(rows, used, commits, entries, low);
     let left = close_up(rows, 3, used, &flags);
     let marks = commit_flags(rows, left, commits, entries);

@@ -7,10 +7,10 @@ ghost use lib.ListN.{length, getD};
 ghost use Rattle.sets.specs.Set.{clients};
 ghost use Rattle.spec.specs.Answers.{Answer, advanceOf};
 ghost use Rattle.steps.specs.Removed.{Removed};
-ghost use Rattle.spec.specs.Steps.{goOn, enter, takeRequest, listRequests, lookRequests, check, takeCommit, listCommits, lookCommits, addCommit, leaveCommits, leaveRequests, steps, noStep};
+ghost use Rattle.spec.specs.Steps.{goOn, enter, takeRequest, listRequests, looked, lookRequests, check, takeCommit, listCommits, lookCommits, addCommit, leaveCommits, leaveRequests, steps, noStep};
 ghost use Rattle.spec.specs.Bytes.{seen, leaves, laidOut, fits};
 use search::Number;
-use sets::CLIENTS;
+use sets::Set;
 use spec::AdvanceAnswer;
 use spec::AdvanceTurn;
 use spec::Progress;
@@ -93,6 +93,20 @@ fn list_requests(store: Store, rows: &[u8], client: u32) -> AdvanceTurn
     go_on(next, client, 4)
 }
 
+// What a look that leaves a list comes to: the next stage if none is left on it, else how many are.
+fn looked(store: Store, client: u32, list: Set, stage: u32) -> AdvanceTurn
+    requires { ⌜ client < clients ⌝ }
+    ensures { λ r. ⌜ ((d c : List ℕ) → leaves (r .store) d c (advanceOf (r .answer)) ≡ laidOut store d c (looked stage client list (seen store d c))) ⌝ }
+{
+    if list == 0 {
+        return go_on(store, client, stage);
+    }
+    AdvanceTurn {
+        store,
+        answer: AdvanceAnswer::Answered(Progress::Waiting(sets::count(list))),
+    }
+}
+
 // 4: look at the request queue.
 fn look_requests(store: Store, client: u32) -> AdvanceTurn
     requires { ⌜ client < clients ⌝ }
@@ -107,16 +121,11 @@ fn look_requests(store: Store, client: u32) -> AdvanceTurn
     let stage = store.stage;
     let request = store.request;
     let own = request[k];
-    let list = record::look(queue, own, &stage, &request, store.blockers[k]);
+    let before = store.blockers[k];
+    let list = record::look(queue, own, &stage, &request, before);
     let mut next = store;
     next.blockers[k] = list;
-    if list == 0 {
-        return go_on(next, client, 5);
-    }
-    AdvanceTurn {
-        store: next,
-        answer: AdvanceAnswer::Answered(Progress::Waiting(sets::count(list))),
-    }
+    looked(next, client, list, 5)
 }
 
 // The client's data rows removed, and the client closed.
@@ -203,16 +212,11 @@ fn look_commits(store: Store, client: u32) -> AdvanceTurn
     let stage = store.stage;
     let commit = store.commit;
     let own = commit[k];
-    let list = record::look(queue, own, &stage, &commit, store.ahead[k]);
+    let before = store.ahead[k];
+    let list = record::look(queue, own, &stage, &commit, before);
     let mut next = store;
     next.ahead[k] = list;
-    if list == 0 {
-        return go_on(next, client, 11);
-    }
-    AdvanceTurn {
-        store: next,
-        answer: AdvanceAnswer::Answered(Progress::Waiting(sets::count(list))),
-    }
+    looked(next, client, list, 11)
 }
 
 // 11: add the committed row; it becomes the last commit.

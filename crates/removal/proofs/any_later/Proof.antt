@@ -1,5 +1,5 @@
 -- Any row later among all is any among the rows from i on.
-use Prim.Native.Nat.{ℕ, _-_}
+use Prim.Native.Nat.{_-_}
 use mathlib.Core.Path.{_≡_, sym, ap, _∙_}
 use mathlib.Core.List.{List}
 use borrow.Author.Needs.{needs}
@@ -9,7 +9,7 @@ use Rattle.rows.proofs.Rows.{rows-start}
 use Rattle.search.specs.Share.{any}
 use Rattle.removal.specs.Trim.{later}
 use Rattle.removal.specs.Newest.{Numbers}
-use Rattle.removal.proofs.Newest.{any-step, any-end}
+use Rattle.removal.proofs.Folds.{any-step, any-end}
 use Rattle.removal.proofs.any_later.Statement.{statement}
 use Rattle.removal.proofs.any_later.Tie as tie
 

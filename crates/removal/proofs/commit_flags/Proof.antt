@@ -1,9 +1,7 @@
 -- The flags below i are right.
-use Prim.Native.Nat.{ℕ, _-_, _≤_, _<_}
-use mathlib.Core.Path.{_≡_, sym, _∙_}
-use mathlib.Core.Logic.{⊎-elim}
+use Prim.Native.Nat.{ℕ, _-_, _<_}
+use mathlib.Core.Path.{_≡_, _∙_}
 use lib.ListN.{length, getD, length-set}
-use borrow.Author.Tests.{lt-ltb, le-ltb}
 use borrow.Author.Needs.{needs}
 use native.Mathlib.Omega.{arith}
 use Rattle.sets.specs.Choice.{if_then_else_}
@@ -14,39 +12,27 @@ use Rattle.removal.proofs.commit_flags.Statement.{statement}
 use Rattle.removal.proofs.commit_flags.Tie as tie
 
 abbrev Inv-loop : tie.InvT-loop
-Inv-loop rows left commits entries flags₀ from₀ i₀ flags from i =
-    (length flags ≡ 1024) × (from ≤ left) × ((k : ℕ) → k < i → getD flags k 0 ≡ (if inUse (rowsIn 24 left rows) (rowAt 8 k commits) then 1 else 0))
+Inv-loop rows left commits entries places flags₀ i₀ flags i =
+    (length flags ≡ 1024) × ((k : ℕ) → k < i → getD flags k 0 ≡ (if inUse (rowsIn 24 left rows) (rowAt 8 k commits) then 1 else 0))
 
 abbrev μ-loop : tie.MeasureT-loop
-μ-loop rows left commits entries flags₀ from₀ i₀ flags from i = entries - i
+μ-loop rows left commits entries places flags₀ i₀ flags i = entries - i
 
 loop-again : tie.Need-loop-again Inv-loop μ-loop
 unfolding inUse
 loop-again c =
-    let a = c .before .before .before .before .before .before .before .args in
-    let loop = c .before .before .before .before .loop in
-    let tag = c .before .before .commit-tag-at in
-    let around = c .before .tag-around in
-    let stored = stored-more (λ k. if inUse (rowsIn 24 (a .left) (a .rows .now)) (rowAt 8 k (a .commits .now)) then 1 else 0) (loop .flags) (loop .i) in
-    ⊎-elim
-    (λ w. rw (w .1, w .2) (
+    let a = c .before .before .before .before .before .before .before .before .args in
+    let loop = c .before .before .before .before .loop in (
       simp length-set (loop .inv .0),
-      omega (arith, w .0 .taken),
-      stored 1 (omega arith) (loop .inv .2) (rw (← tag .ensures, ← around .ensures .1, lt-ltb _ _ (w .0 .taken))),
-    ))
-    (λ w. rw (w .1, w .2) (
-      simp length-set (loop .inv .0),
-      loop .inv .1,
-      stored 0 (omega arith) (loop .inv .2) (rw (← tag .ensures, ← around .ensures .1, le-ltb _ _ (w .0 .left))),
-    ))
-    (c .if1 .came)
+      stored-more (λ k. if inUse (rowsIn 24 (a .left) (a .rows .now)) (rowAt 8 k (a .commits .now)) then 1 else 0) (loop .flags) (loop .i) (c .use-flag .result) (omega arith) (loop .inv .1)
+          (c .use-flag .ensures ∙ rw (c .before .commit-tag-at .ensures)),
+    )
 
 returns : tie.Need-returns Inv-loop μ-loop
-returns c = record { size = c .before .loop .inv .0; each = λ k h. c .before .loop .inv .2 k (omega arith) }
+returns c = record { size = c .before .loop .inv .0; each = λ k h. c .before .loop .inv .1 k (omega arith) }
 
 pub commit-flags-spec : {M : Type 1} → statement M
 commit-flags-spec =
     tie.close
     (tie.spec
-    Inv-loop μ-loop (λ c. search needs) (λ c κs. search needs) (λ c κs. search needs) (λ c. search needs) (λ c. search needs)
-    (λ c. search needs) (λ c. search needs) loop-again returns)
+    Inv-loop μ-loop (λ c κs. search needs) (λ c. search needs) (λ c κs. search needs) (λ c κs. search needs) (λ c. search needs) (λ c. search needs) (λ c. search needs) loop-again returns)

@@ -1,6 +1,6 @@
 -- The flags below i are right: those below first are 1 from the start.
-use Prim.Native.Nat.{ℕ, _-_, _≤_, _<_}
-use mathlib.Core.Path.{_≡_, _∙_}
+use Prim.Native.Nat.{ℕ, _-_, _<_}
+use mathlib.Core.Path.{_≡_}
 use lib.ListN.{length, getD, length-set, getD-replicate}
 use borrow.Author.Needs.{needs}
 use native.Mathlib.Omega.{arith}

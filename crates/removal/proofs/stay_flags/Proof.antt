@@ -7,7 +7,6 @@ use native.Mathlib.Omega.{arith}
 use Rattle.sets.specs.Choice.{if_then_else_}
 use Rattle.rows.specs.Rows.{rowAt, rowsIn}
 use Rattle.removal.specs.Trim.{stays}
-use Rattle.removal.specs.Newest.{Numbers, Newest}
 use Rattle.removal.proofs.Moving.{stored-more}
 use Rattle.removal.proofs.stay_flags.Statement.{statement}
 use Rattle.removal.proofs.stay_flags.Tie as tie
@@ -18,6 +17,11 @@ Inv-loop rows used commits entries low newest numbers flags₀ i₀ flags i =
 
 abbrev μ-loop : tie.MeasureT-loop
 μ-loop rows used commits entries low newest numbers flags₀ i₀ flags i = used - i
+
+note-rows-requires : tie.Need-note-rows-requires Inv-loop μ-loop
+note-rows-requires c κs =
+    let pre = c .before .before .before .pre in
+    (pre .0, (pre .1 .0, (pre .1 .1 .0, (pre .1 .1 .1, refl))))
 
 loop-again : tie.Need-loop-again Inv-loop μ-loop
 loop-again c =
@@ -38,4 +42,4 @@ pub stay-flags-spec : {M : Type 1} → statement M
 stay-flags-spec =
     tie.close
     (tie.spec
-    Inv-loop μ-loop (λ c κs. search needs) (λ c. search needs) (λ c κs. search needs) (λ c. search needs) (λ c. search needs) (λ c. search needs) loop-again returns)
+    Inv-loop μ-loop note-rows-requires (λ c. search needs) (λ c κs. search needs) (λ c. search needs) (λ c. search needs) (λ c. search needs) loop-again returns)

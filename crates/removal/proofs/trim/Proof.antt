@@ -1,21 +1,26 @@
--- Two removals, the second by what the first left.
+-- Two removals, the second by what the first left; none where no row is committed.
 use borrow.Author.Needs.{needs}
 use native.Mathlib.Omega.{arith}
-use Rattle.removal.proofs.Moving.{kept-at-most, trimmed}
+use Rattle.removal.proofs.Moving.{kept-at-most, trimmed, untrimmed}
 use Rattle.removal.proofs.trim.Statement.{statement}
 use Rattle.removal.proofs.trim.Tie as tie
 
+returns : tie.Need-returns
+returns c =
+    let a = c .before .before .before .args in
+    rw (c .if1 .taken) (untrimmed (a .low) (a .used) (a .rows .now) (a .commits .now))
+
 commit-flags-requires : tie.Need-commit-flags-requires
 commit-flags-requires c κs =
-    let start = c .before .before .before .before .before .before .before .before .before .before .before .before in
+    let start = c .before .before .before .before .before .before .before .before .before .before .before .before .before in
     let a = start .args in
     let first = c .before .before .before .before .close-up in
     let few = kept-at-most (c .before .before .before .before .before .before .before .stay-flags .result) 24 (a .used) (a .rows .now) in
     omega (arith, first .ensures .rows, first .kept .0, start .pre)
 
-returns : tie.Need-returns
-returns c =
-    let start = c .before .before .before .before .before .before .before .before .before .before .before .before .before .before .before .before .before .before in
+returns-2 : tie.Need-returns-2
+returns-2 c =
+    let start = c .before .before .before .before .before .before .before .before .before .before .before .before .before .before .before .before .before .before .before in
     let a = start .args in
     let stay = c .before .before .before .before .before .before .before .before .before .before .before .before .before .stay-flags in
     let first = c .before .before .before .before .before .before .before .before .before .before .close-up in
@@ -28,4 +33,4 @@ pub trim-spec : {M : Type 1} → statement M
 trim-spec =
     tie.close
     (tie.spec
-    (λ c κs. search needs) (λ c κs. search needs) commit-flags-requires (λ c κs. search needs) (λ c. search needs) (λ c. search needs) returns)
+    returns (λ c κs. search needs) (λ c κs. search needs) commit-flags-requires (λ c κs. search needs) (λ c. search needs) (λ c. search needs) returns-2)

@@ -1,0 +1,20 @@
+-- Three texts, one behind the other. Assumes nothing.
+use borrow.Author.Needs.{needs}
+use native.Mathlib.Omega.{arith}
+use Rattle.spec.specs.Text.{numbered}
+use Rattle.text.proofs.Texts.{put-then}
+use Rattle.reply.proofs.put_numbered.Statement.{statement}
+use Rattle.reply.proofs.put_numbered.Tie as tie
+
+returns : tie.Need-returns
+unfolding numbered
+returns c =
+    let w = c .before .before .before .before .before .before .before .before .before .before .put .ensures in
+    let n = c .before .before .before .before .before .before .put-decimal .ensures in
+    let e = c .before .before .put2 .ensures in
+    (put-then w (put-then (n .0) e), omega (arith, w .place, n .1, e .place))
+
+pub put-numbered-spec : {M : Type 1} → statement M
+put-numbered-spec =
+    tie.close (tie.spec
+    (λ c κs. search needs) (λ c κs. search needs) (λ c κs. search needs) (λ c. search needs) returns)

@@ -1,0 +1,396 @@
+// Text of the step program: a form from a line, and the printing of words, numbers and bytes. Definitions: crate spec, specs/Text.antt.
+use spec::Decimal;
+use spec::Form;
+use spec::One;
+use spec::Two;
+ghost use mathlib.Core.Path.{_≡_};
+ghost use mathlib.Core.Bool.{true};
+ghost use Prim.Native.Nat.{ℕ, _+_, _≤_, _<_};
+ghost use lib.ListN.{length};
+ghost use Rattle.spec.specs.Text.{begins as Text·begins, stands as Text·stands, closes as Text·closes, digitVal, decimalAt, decimalOf, hexVal, hexAt, hexDigit, hexText, valueIn, oneAt, spacedAt, twoAt, setUpOf, writeOf, formIn, formOf};
+ghost use Rattle.text.specs.Print.{Put, Spelled};
+
+// ---- bytes of a line
+
+// Whether the line begins with the word.
+fn begins(word: &[u8], line: &[u8]) -> bool
+    ensures { λ r. ⌜ r ≡ Text·begins (now (word .entry)) (now (line .entry)) ⌝ }
+{
+    if line.len() < word.len() {
+        return false;
+    }
+    let mut i = 0;
+    while i < word.len() {
+        if word[i] != line[i] {
+            return false;
+        }
+        i += 1;
+    }
+    true
+}
+
+// Whether the byte stands at a place of the line.
+fn stands(b: u8, line: &[u8], at: usize) -> bool
+    ensures { λ r. ⌜ r ≡ Text·stands b (now (line .entry)) at ⌝ }
+    ensures { λ r. ⌜ (r ≡ true → at < length (now (line .entry))) ⌝ }
+{
+    if at < line.len() {
+        line[at] == b
+    } else {
+        false
+    }
+}
+
+// Whether the line's last byte stands at a place, and is a closing bracket.
+fn closes(line: &[u8], at: usize) -> bool
+    ensures { λ r. ⌜ r ≡ Text·closes (now (line .entry)) at ⌝ }
+{
+    if line.len() <= at {
+        return false;
+    }
+    if line.len() - at == 1 {
+        line[at] == b')'
+    } else {
+        false
+    }
+}
+
+// ---- numbers and values in a line
+
+// The value of a decimal digit, 10 for any other byte.
+fn digit_of(b: u8) -> u64
+    ensures { λ r. ⌜ r ≡ digitVal b ⌝ }
+{
+    if b < 48 {
+        return 10;
+    }
+    if 57 < b {
+        return 10;
+    }
+    (b - 48) as u64
+}
+
+// The decimal number at a place of the line.
+fn decimal(line: &[u8], at: usize) -> Decimal
+    ensures { λ r. ⌜ r ≡ decimalAt (now (line .entry)) at ⌝ }
+{
+    if line.len() <= at {
+        return Decimal::No;
+    }
+    let first = digit_of(line[at]);
+    if 10 <= first {
+        return Decimal::No;
+    }
+    let mut acc = first;
+    let mut i = at + 1;
+    while i < line.len() {
+        let d = digit_of(line[i]);
+        if 10 <= d {
+            return Decimal::Is {
+                value: acc as u32,
+                next: i,
+            };
+        }
+        if acc == 0 {
+            return Decimal::No;
+        }
+        let more = acc * 10 + d;
+        if 4294967295 < more {
+            return Decimal::No;
+        }
+        acc = more;
+        i += 1;
+    }
+    Decimal::Is {
+        value: acc as u32,
+        next: i,
+    }
+}
+
+// The value of a hexadecimal digit, 16 for any other byte.
+fn hex_of(b: u8) -> u32
+    ensures { λ r. ⌜ (r ≡ hexVal b) × (r ≤ 16) ⌝ }
+{
+    if b < 48 {
+        return 16;
+    }
+    if b < 58 {
+        return (b - 48) as u32;
+    }
+    if b < 97 {
+        return 16;
+    }
+    if b < 103 {
+        return (b - 87) as u32;
+    }
+    16
+}
+
+// Whether 32 hexadecimal digits stand in the line from a place on.
+fn hex_at(line: &[u8], at: usize) -> bool
+    ensures { λ r. ⌜ r ≡ hexAt (now (line .entry)) at ⌝ }
+{
+    let mut left: usize = 32;
+    let mut i = at;
+    while 0 < left {
+        if line.len() <= i {
+            return false;
+        }
+        if 16 <= hex_of(line[i]) {
+            return false;
+        }
+        i += 1;
+        left -= 1;
+    }
+    true
+}
+
+// The sixteen bytes whose digits stand in the line from a place on; zeros where they are not all there.
+pub fn value_in(line: &[u8], at: usize) -> [u8; 16]
+    ensures { λ r. ⌜ r ≡ valueIn (now (line .entry)) at ⌝ }
+{
+    let mut v = [0u8; 16];
+    if line.len() < 32 {
+        return v;
+    }
+    if line.len() - 32 < at {
+        return v;
+    }
+    let mut i = 0;
+    let mut o = at;
+    while i < 16 {
+        v[i] = ((hex_of(line[o]) * 16 + hex_of(line[o + 1])) % 256) as u8;
+        i += 1;
+        o += 2;
+    }
+    v
+}
+
+// ---- the form of a line
+
+// A number and the closing bracket.
+fn one_at(line: &[u8], at: usize) -> One
+    ensures { λ r. ⌜ r ≡ oneAt (now (line .entry)) at ⌝ }
+{
+    match decimal(line, at) {
+        Decimal::Is { value, next } => {
+            if closes(line, next) {
+                One::Only(value)
+            } else {
+                One::NotOne
+            }
+        }
+        Decimal::No => One::NotOne,
+    }
+}
+
+// A number and a space.
+fn spaced_at(line: &[u8], at: usize) -> Decimal
+    ensures { λ r. ⌜ r ≡ spacedAt (now (line .entry)) at ⌝ }
+{
+    match decimal(line, at) {
+        Decimal::Is { value, next } => {
+            if stands(b' ', line, next) {
+                Decimal::Is {
+                    value,
+                    next: next + 1,
+                }
+            } else {
+                Decimal::No
+            }
+        }
+        Decimal::No => Decimal::No,
+    }
+}
+
+// A number, a space, a number and the closing bracket.
+fn two_at(line: &[u8], at: usize) -> Two
+    ensures { λ r. ⌜ r ≡ twoAt (now (line .entry)) at ⌝ }
+{
+    match spaced_at(line, at) {
+        Decimal::Is { value, next } => match one_at(line, next) {
+            One::Only(second) => Two::Both(value, second),
+            One::NotOne => Two::NotTwo,
+        },
+        Decimal::No => Two::NotTwo,
+    }
+}
+
+// What stands behind "(set-up ".
+fn set_up_of(line: &[u8]) -> Form
+    ensures { λ r. ⌜ r ≡ setUpOf (now (line .entry)) ⌝ }
+{
+    match spaced_at(line, 8) {
+        Decimal::Is { value, next } => match two_at(line, next) {
+            Two::Both(first, limit) => Form::SetUp {
+                rows: value,
+                first,
+                limit,
+            },
+            Two::NotTwo => Form::Other,
+        },
+        Decimal::No => Form::Other,
+    }
+}
+
+// What stands behind "(write ".
+fn write_of(line: &[u8]) -> Form
+    ensures { λ r. ⌜ r ≡ writeOf (now (line .entry)) ⌝ }
+{
+    let Decimal::Is {
+        value: client,
+        next: second,
+    } = spaced_at(line, 7)
+    else {
+        return Form::Other;
+    };
+    let Decimal::Is { value: cell, next } = spaced_at(line, second) else {
+        return Form::Other;
+    };
+    if next < line.len() {
+        if closes(line, next + 32) {
+            if hex_at(line, next) {
+                return Form::Write {
+                    client,
+                    cell,
+                    value: next,
+                };
+            }
+        }
+    }
+    Form::Other
+}
+
+// The form of a line of any length.
+fn form_in(line: &[u8]) -> Form
+    ensures { λ r. ⌜ r ≡ formIn (now (line .entry)) ⌝ }
+{
+    if begins(b"(set-up ", line) {
+        return set_up_of(line);
+    }
+    if begins(b"(begin ", line) {
+        return match one_at(line, 7) {
+            One::Only(client) => Form::Begin(client),
+            One::NotOne => Form::Other,
+        };
+    }
+    if begins(b"(read ", line) {
+        return match two_at(line, 6) {
+            Two::Both(client, cell) => Form::Read(client, cell),
+            Two::NotTwo => Form::Other,
+        };
+    }
+    if begins(b"(write ", line) {
+        return write_of(line);
+    }
+    if begins(b"(advance ", line) {
+        return match one_at(line, 9) {
+            One::Only(client) => Form::Advance(client),
+            One::NotOne => Form::Other,
+        };
+    }
+    if begins(b"(abandon ", line) {
+        return match one_at(line, 9) {
+            One::Only(client) => Form::Abandon(client),
+            One::NotOne => Form::Other,
+        };
+    }
+    if begins(b"(trim)", line) {
+        if line.len() == 6 {
+            return Form::Trim;
+        }
+        return Form::Other;
+    }
+    if begins(b"(free)", line) {
+        if line.len() == 6 {
+            return Form::Free;
+        }
+    }
+    Form::Other
+}
+
+// The form of a line, without its newline: document 01, "The step program".
+pub fn form_of(line: &[u8]) -> Form
+    ensures { λ r. ⌜ r ≡ formOf (now (line .entry)) ⌝ }
+{
+    if 80 < line.len() {
+        return Form::Other;
+    }
+    form_in(line)
+}
+
+// ---- printing: each function appends to the text in out that ends at a place, and answers where the text ends now
+
+pub fn put(out: &mut [u8], at: usize, word: &[u8]) -> usize
+    requires { ⌜ at + length (now word) ≤ length (now out) ⌝ }
+    ensures { λ r. ⌜ Put (now (out .entry)) at (now (word .entry)) (now (out .exit)) r ⌝ }
+{
+    let mut i = 0;
+    let mut o = at;
+    while i < word.len() {
+        out[o] = word[i];
+        i += 1;
+        o += 1;
+    }
+    o
+}
+
+// Decimal digits: the last bytes, from a place on.
+struct Digits {
+    bytes: [u8; 10],
+    from: usize,
+}
+
+fn digits_of(n: u32) -> Digits
+    ensures { λ r. ⌜ Spelled n (r .bytes) (r .from) ⌝ }
+{
+    let mut bytes = [0u8; 10];
+    let mut from: usize = 10;
+    let mut rest = n;
+    while 0 < from {
+        from -= 1;
+        bytes[from] = 48 + (rest % 10) as u8;
+        rest = rest / 10;
+        if rest == 0 {
+            return Digits { bytes, from };
+        }
+    }
+    Digits { bytes, from }
+}
+
+// A number in decimal.
+pub fn put_decimal(out: &mut [u8], at: usize, n: u32) -> usize
+    requires { ⌜ at + 10 ≤ length (now out) ⌝ }
+    ensures { λ r. ⌜ Put (now (out .entry)) at (decimalOf n) (now (out .exit)) r ⌝ }
+    ensures { λ r. ⌜ r ≤ at + 10 ⌝ }
+{
+    let s = digits_of(n);
+    let d = s.bytes;
+    let from = s.from;
+    put(out, at, &d[from..])
+}
+
+// The digit of a value below 16.
+fn hex_digit(d: u8) -> u8
+    requires { ⌜ d < 16 ⌝ }
+    ensures { λ r. ⌜ r ≡ hexDigit d ⌝ }
+{
+    if d < 10 { 48 + d } else { 87 + d }
+}
+
+// Bytes in hexadecimal.
+pub fn put_hex(out: &mut [u8], at: usize, value: &[u8]) -> usize
+    requires { ⌜ at + length (now value) + length (now value) ≤ length (now out) ⌝ }
+    ensures { λ r. ⌜ Put (now (out .entry)) at (hexText (now (value .entry))) (now (out .exit)) r ⌝ }
+{
+    let mut i = 0;
+    let mut o = at;
+    while i < value.len() {
+        let b = value[i];
+        out[o] = hex_digit(b / 16);
+        out[o + 1] = hex_digit(b % 16);
+        i += 1;
+        o += 2;
+    }
+    o
+}
