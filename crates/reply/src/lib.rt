@@ -176,7 +176,13 @@ pub fn begun_line(out: &mut [u8], at: usize, form: Form, answer: BeginAnswer) ->
 }
 
 // value is what was read, where something was.
-pub fn reading_line(out: &mut [u8], at: usize, form: Form, answer: ReadAnswer, value: &[u8]) -> usize
+pub fn reading_line(
+    out: &mut [u8],
+    at: usize,
+    form: Form,
+    answer: ReadAnswer,
+    value: &[u8],
+) -> usize
     requires { ⌜ at + 90 ≤ length (now out) ⌝ }
     requires { ⌜ length (now value) ≤ 16 ⌝ }
     ensures { λ r. ⌜ Put (now (out .entry)) at (lineText form (answerText (readingText (now (value .entry))) (readOf answer))) (now (out .exit)) r ⌝ }

@@ -13,9 +13,10 @@ unfolding lineText
 returns c =
     let h = c .before .before .before .before .before .before .before .before .before .before .before .before .before .before .put-head .ensures in
     let n = c .before .before .before .before .before .before .before .before .put-numbered .ensures in
-    let s = c .before .before .put-numbered2 .ensures in
-    (rw (append-assoc, ← numbered-end (str "(snapshot ") (c .before .before .before .before .before .before .before .before .before .before .before .before .before .before .before .before .before .args .begun .snapshot) (41 ∷ []) (41 ∷ 10 ∷ [])) (put-then (h .0) (put-then (n .0) (s .0))),
-    omega (arith, h .1, n .1, s .1))
+    let s = c .before .before .put-numbered2 .ensures in (
+      rw (append-assoc, ← numbered-end (str "(snapshot ") (c .before .before .before .before .before .before .before .before .before .before .before .before .before .before .before .before .before .args .begun .snapshot) (41 ∷ []) (41 ∷ 10 ∷ [])) (put-then (h .0) (put-then (n .0) (s .0))),
+      omega (arith, h .1, n .1, s .1),
+    )
 
 pub open-line-spec : {M : Type 1} → statement M
 open-line-spec =

@@ -17,9 +17,10 @@ returns c =
     let h = c .before .before .before .before .before .before .before .before .before .before .before .before .before .before .before .before .put-head .ensures in
     let w = c .before .before .before .before .before .before .before .before .before .before .before .put .ensures in
     let v = c .before .before .before .before .before .before .before .put-hex .ensures in
-    let e = c .before .before .put2 .ensures in
-    (simp append-assoc (put-then (h .0) (put-then w (put-then v e))),
-    omega (arith, h .1, w .place, v .place, e .place, hex-length (c .before .before .before .before .before .before .before .before .before .before .before .before .before .before .before .before .before .before .before .before .args .value .now)))
+    let e = c .before .before .put2 .ensures in (
+      simp append-assoc (put-then (h .0) (put-then w (put-then v e))),
+      omega (arith, h .1, w .place, v .place, e .place, hex-length (c .before .before .before .before .before .before .before .before .before .before .before .before .before .before .before .before .before .before .before .before .args .value .now)),
+    )
 
 pub value-line-spec : {M : Type 1} → statement M
 value-line-spec =

@@ -40,10 +40,11 @@ returns-5 c =
     ∙ digits-large _ _ _ (c .before .before .before .digit-of2 .ensures) (c .before .before .before .before .before .loop-test .taken) _ (c .before .before .if3 .left) (c .before .if4 .left) (c .if5 .taken))
 
 loop-again : tie.Need-loop-again Inv-loop μ-loop
-loop-again c =
-    (omega arith,
-    omega arith,
-    c .before .before .before .before .before .before .loop .inv .2 ∙ digits-more _ _ _ (c .before .before .before .digit-of2 .ensures) (c .before .before .before .before .before .loop-test .taken) _ (c .before .before .if3 .left) (c .before .if4 .left) (c .if5 .left))
+loop-again c = (
+  omega arith,
+  omega arith,
+  c .before .before .before .before .before .before .loop .inv .2 ∙ digits-more _ _ _ (c .before .before .before .digit-of2 .ensures) (c .before .before .before .before .before .loop-test .taken) _ (c .before .before .if3 .left) (c .before .if4 .left) (c .if5 .left),
+)
 
 returns-6 : tie.Need-returns-6 Inv-loop μ-loop
 returns-6 c = sym (c .before .loop .inv .2 ∙ digits-end _ _ _ (c .loop-test .left))

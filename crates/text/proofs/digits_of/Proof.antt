@@ -31,10 +31,11 @@ returns c =
 loop-again : tie.Need-loop-again Inv-loop μ-loop
 loop-again c =
     let l = c .before .before .loop in
-    let k : l .from ≤ length (l .bytes) = omega arith in
-    (omega arith,
-    simp length-set (l .inv .1),
-    l .inv .2 ∙ decimal-more (l .bytes) (l .from) (l .rest) (c .before .loop-test .taken) k (c .if1 .left))
+    let k : l .from ≤ length (l .bytes) = omega arith in (
+      omega arith,
+      simp length-set (l .inv .1),
+      l .inv .2 ∙ decimal-more (l .bytes) (l .from) (l .rest) (c .before .loop-test .taken) k (c .if1 .left),
+    )
 
 returns-2 : tie.Need-returns-2 Inv-loop μ-loop
 returns-2 c =

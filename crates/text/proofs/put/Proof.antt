@@ -22,11 +22,12 @@ loop-again : tie.Need-loop-again Inv-loop μ-loop
 loop-again c =
     let l = c .before .before .loop in
     let a = c .before .before .before .args in
-    let h : l .o < length (l .out) = omega arith in
-    (omega arith,
-    omega arith,
-    simp length-set (l .inv .2),
-    put-more (l .out) (a .word .now) (take (a .at) (a .out .now)) (l .o) (l .i) (l .inv .3) h (c .before .loop-test .taken))
+    let h : l .o < length (l .out) = omega arith in (
+      omega arith,
+      omega arith,
+      simp length-set (l .inv .2),
+      put-more (l .out) (a .word .now) (take (a .at) (a .out .now)) (l .o) (l .i) (l .inv .3) h (c .before .loop-test .taken),
+    )
 
 returns : tie.Need-returns Inv-loop μ-loop
 returns c =

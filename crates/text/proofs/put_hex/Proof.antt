@@ -25,11 +25,12 @@ hex-digit-requires c κs = omega (arith, c .shared-slice-known2 .given (c .befor
 loop-again : tie.Need-loop-again Inv-loop μ-loop
 loop-again c =
     let l = c .before .before .before .before .loop in
-    let h : l .o + 1 < length (l .out) = omega arith in
-    (omega arith,
-    omega arith,
-    simp length-set (l .inv .2),
-    rw (c .before .hex-digit .ensures, c .hex-digit2 .ensures) (hex-put _ _ _ _ _ (l .inv .3) h (c .before .before .before .loop-test .taken)))
+    let h : l .o + 1 < length (l .out) = omega arith in (
+      omega arith,
+      omega arith,
+      simp length-set (l .inv .2),
+      rw (c .before .hex-digit .ensures, c .hex-digit2 .ensures) (hex-put _ _ _ _ _ (l .inv .3) h (c .before .before .before .loop-test .taken)),
+    )
 
 returns : tie.Need-returns Inv-loop μ-loop
 returns c =

@@ -33,11 +33,12 @@ loop-holds c = (omega arith, omega arith, refl, refl)
 loop-again : tie.Need-loop-again Inv-loop μ-loop
 loop-again c =
     let l = c .before .before .before .before .before .loop in
-    let h : l .o + 1 < length (c .before .before .before .before .before .before .before .before .before .args .line .now) = omega arith in
-    (omega arith,
-    omega arith,
-    simp length-set (l .inv .2),
-    bytes-more _ _ _ _ _ (l .inv .2) (l .inv .3) _ _ (c .before .before .hex-of .ensures .0) (c .hex-of2 .ensures .0) (c .before .before .before .before .loop-test .taken) h)
+    let h : l .o + 1 < length (c .before .before .before .before .before .before .before .before .before .args .line .now) = omega arith in (
+      omega arith,
+      omega arith,
+      simp length-set (l .inv .2),
+      bytes-more _ _ _ _ _ (l .inv .2) (l .inv .3) _ _ (c .before .before .hex-of .ensures .0) (c .hex-of2 .ensures .0) (c .before .before .before .before .loop-test .taken) h,
+    )
 
 returns-3 : tie.Need-returns-3 Inv-loop μ-loop
 unfolding valueIn

@@ -18,29 +18,56 @@ returns-3 : tie.Need-returns-3
 unfolding writeOf
 returns-3 c =
     let d = c .before .before .before .before .before .before in
-    rw (← d .before .before .before .before .before .before .spaced-at .ensures, d .before .before .before .before .client .given .1, ← d .before .before .spaced-at2 .ensures, d .cell .given .1,
-    ← c .before .before .before .closes .ensures, c .before .before .if2 .taken, ← c .before .hex-at .ensures, c .if3 .taken)
+    rw (
+      ← d .before .before .before .before .before .before .spaced-at .ensures,
+      d .before .before .before .before .client .given .1,
+      ← d .before .before .spaced-at2 .ensures,
+      d .cell .given .1,
+      ← c .before .before .before .closes .ensures,
+      c .before .before .if2 .taken,
+      ← c .before .hex-at .ensures,
+      c .if3 .taken,
+    )
 
 returns-4 : tie.Need-returns-4
 unfolding writeOf
 returns-4 c =
     let d = c .before .before .before .before .before .before in
-    rw (← d .before .before .before .before .before .before .spaced-at .ensures, d .before .before .before .before .client .given .1, ← d .before .before .spaced-at2 .ensures, d .cell .given .1,
-    ← c .before .before .before .closes .ensures, c .before .before .if2 .taken, ← c .before .hex-at .ensures, c .if3 .left)
+    rw (
+      ← d .before .before .before .before .before .before .spaced-at .ensures,
+      d .before .before .before .before .client .given .1,
+      ← d .before .before .spaced-at2 .ensures,
+      d .cell .given .1,
+      ← c .before .before .before .closes .ensures,
+      c .before .before .if2 .taken,
+      ← c .before .hex-at .ensures,
+      c .if3 .left,
+    )
 
 returns-5 : tie.Need-returns-5
 unfolding writeOf
 returns-5 c =
     let d = c .before .before .before .before in
-    rw (← d .before .before .before .before .before .before .spaced-at .ensures, d .before .before .before .before .client .given .1, ← d .before .before .spaced-at2 .ensures, d .cell .given .1,
-    ← c .before .closes .ensures, c .if2 .left)
+    rw (
+      ← d .before .before .before .before .before .before .spaced-at .ensures,
+      d .before .before .before .before .client .given .1,
+      ← d .before .before .spaced-at2 .ensures,
+      d .cell .given .1,
+      ← c .before .closes .ensures,
+      c .if2 .left,
+    )
 
 returns-6 : tie.Need-returns-6
 unfolding writeOf
 returns-6 c =
     let d = c .before .before in
-    rw (← d .before .before .before .before .before .before .spaced-at .ensures, d .before .before .before .before .client .given .1, ← d .before .before .spaced-at2 .ensures, d .cell .given .1,
-    closes-past _ _ (c .if1 .left))
+    rw (
+      ← d .before .before .before .before .before .before .spaced-at .ensures,
+      d .before .before .before .before .client .given .1,
+      ← d .before .before .spaced-at2 .ensures,
+      d .cell .given .1,
+      closes-past _ _ (c .if1 .left),
+    )
 
 pub write-of-spec : {M : Type 1} → statement M
 write-of-spec =

@@ -1,0 +1,105 @@
+-- The book of the plain table. A call changes it only by an Advance of an open client that answers Stage 12, which puts the client's commit to
+-- its end. Where that answer is right, the commit's number is above the last in the book, so the numbers rise (`rising-run`); and the table
+-- then has a value just where it had one or the commit wrote one (`valued-run`). Both go by one induction over the calls (`along`).
+-- Assumes nothing.
+use Prim.Native.Nat.{ℕ, _<_}
+use mathlib.Core.Path.{_≡_, refl, sym, ap, _∙_}
+use mathlib.Core.Bool.{Bool, true, false, false≢true}
+use mathlib.Core.List.{List, [], _∷_, _++_, List·Memᴰ·head as here}
+use mathlib.Core.Option.{Option, none, some}
+use borrow.Author.Tests.{eqb-true}
+use lib.Dec.{eqb}
+use Rattle.sets.specs.Choice.{if_then_else_}
+use Rattle.spec.specs.declared.Progress.the-variants.{Stage, Waiting, Conflict, Done}
+use Rattle.spec.specs.Answers.{Answer, Answered, Refused}
+use Rattle.spec.specs.Run.{Call, Begin, Read, Write, Advance, Abandon, Trim, Free, Memory}
+use Rattle.spec.specs.Table.{Value, Values, has, Commit, Open, Table, blank, orElse, commits, reaches, Told, tell}
+use Rattle.spec.specs.Right.{lastNumber, RightProgress, Right, tells, RightRun}
+use Rattle.spec.proofs.Lists.{in-nil, in-left, in-right, append-case, in-one}
+use Rattle.history.specs.Demand.{tableAfter, Rising, Valued}
+
+-- a claim on a choice, by its branches
+pub either : (P : Table → Type 0) (b : Bool) {s t : Table} → (b ≡ true → P s) → (b ≡ false → P t) → P (if b then s else t)
+either P true f g = f refl
+either P false f g = g refl
+
+-- ---- what holds after every list of rightly answered calls
+
+-- a claim on values and book that every commit numbered above the last keeps
+module _ (P : Values → List Commit → Type 0)
+    (made : (k : ℕ) (t : Table) (o : Open) → lastNumber (t .book) < o .commit → P (t .values) (t .book) → P (commits k t o .values) (commits k t o .book)) where
+  stage-keeps : (t : Table) (o : Open) (k g : ℕ) → RightProgress t o (Stage g) → P (t .values) (t .book)
+      → P (reaches k g t (some o) .values) (reaches k g t (some o) .book)
+  unfolding reaches
+  stage-keeps t o k g r h =
+      either (λ s. P (s .values) (s .book)) (eqb g 8) (λ _. h)
+      (λ _. either (λ s. P (s .values) (s .book)) (eqb g 12) (λ e. made k t o (r .1 .1 (eqb-true g 12 e) .1) h) (λ _. h))
+
+  call-keeps : (n w : ℕ) (t : Table) (q : Call) (a : Answer (Told q)) (next : Answer ℕ) → Right n w t q a next → P (t .values) (t .book)
+      → P (tell q a t .values) (tell q a t .book)
+  unfolding tell
+  call-keeps n w t q (Refused m) next r h = h
+  call-keeps n w t (Begin k) (Answered a) next r h = h
+  call-keeps n w t (Read k x) (Answered a) next r h = h
+  call-keeps n w t (Write k x v) (Answered a) next r h = rw (r .1) h
+  call-keeps n w t (Advance k) (Answered (Stage g)) next r h = rw (r .1) (stage-keeps t (r .0) k g (r .2) h)
+  call-keeps n w t (Advance k) (Answered (Waiting m)) next r h = h
+  call-keeps n w t (Advance k) (Answered (Conflict m)) next r h = h
+  call-keeps n w t (Advance k) (Answered (Done m)) next r h = h
+  call-keeps n w t (Abandon k) (Answered a) next r h = h
+  call-keeps n w t Trim (Answered a) next r h = h
+  call-keeps n w t Free (Answered a) next r h = h
+
+  along : (qs : List Call) (n w : ℕ) (t : Table) (m : Memory) → RightRun n w t m qs → P (t .values) (t .book)
+      → P (tableAfter qs m t .values) (tableAfter qs m t .book)
+  along [] n w t m r h = h
+  along (q ∷ qs) n w t m r h = along qs n _ _ _ (r .1) (call-keeps n w t q (tells q m) _ (r .0) h)
+
+-- ---- the numbers rise
+
+rising-append : (l : List Commit) (e : Commit) → lastNumber l < e .number → Rising l → Rising (l ++ (e ∷ []))
+unfolding lastNumber
+rising-append [] e h r = tt
+rising-append (d ∷ []) e h r = (h, tt)
+rising-append (d ∷ f ∷ l) e h r = (r .0, rising-append (f ∷ l) e h (r .1))
+
+pub rising-run : (qs : List Call) (n w : ℕ) (m : Memory) → RightRun n w blank m qs → Rising (tableAfter qs m blank .book)
+unfolding blank
+rising-run qs n w m r = along (λ v l. Rising l) (λ k t o h. rising-append (t .book) _ h) qs n w blank m r tt
+
+-- ---- the cells with a value
+
+-- writes laid over a value
+
+over-case : (a b : Option Value) {C : Type 0} → has (orElse a b) ≡ true → (has a ≡ true → C) → (has b ≡ true → C) → C
+over-case none b e f g = g e
+over-case (some v) b e f g = f e
+
+over-left : (a b : Option Value) → has a ≡ true → has (orElse a b) ≡ true
+over-left none b e = cc
+over-left (some v) b e = refl
+
+over-right : (a b : Option Value) → has b ≡ true → has (orElse a b) ≡ true
+over-right none b e = e
+over-right (some v) b e = refl
+
+valued-append : (x k : ℕ) (t : Table) (o : Open) → Valued x (t .values) (t .book) → Valued x (commits k t o .values) (commits k t o .book)
+valued-append x k t o h = record {
+  ever = λ e.
+      over-case (o .writes x) (t .values x) e
+      (λ p. (_, in-right (t .book) (here refl), p))
+      (λ p. let z = h .ever p in (z .0, in-left _ (z .1), z .2));
+  still = λ z.
+      append-case (t .book) (z .1)
+      (λ i. over-right (o .writes x) (t .values x) (h .still (z .0, i, z .2)))
+      (λ i. over-left (o .writes x) (t .values x) (ap (λ (e : Commit). e .wrote x) (sym (in-one i)) ∙ z .2));
+}
+
+pub valued-run : (qs : List Call) (n w : ℕ) (m : Memory) → RightRun n w blank m qs → (x : ℕ)
+    → Valued x (tableAfter qs m blank .values) (tableAfter qs m blank .book)
+unfolding blank
+valued-run qs n w m r x =
+    along (Valued x) (λ k t o _. valued-append x k t o) qs n w blank m r record {
+      ever = λ e. absurd (false≢true e);
+      still = λ z. absurd (in-nil (z .1));
+    }

@@ -1,0 +1,97 @@
+-- Demand 3 of document 01 ("The plain table"): "one claim about the whole list of calls", from what one set-up handed back. d and c are the
+-- bytes of the buffers given to set-up, w the first W, l the limit, qs the calls; client k, cell x.
+-- Assumes nothing.
+use Prim.Native.Nat.{ℕ, _<_}
+use mathlib.Core.Path.{_≡_}
+use mathlib.Core.Logic.{_≢_}
+use mathlib.Core.Bool.{true, false}
+use mathlib.Core.List.{List, [], _∷_, _++_, List·Memᴰ}
+use mathlib.Core.Option.{Option}
+use lib.ListN.{length}
+use Rattle.spec.specs.declared.Progress.{Progress}
+use Rattle.spec.specs.declared.Progress.the-variants.{Stage, Waiting, Conflict, Done}
+use Rattle.spec.specs.Answers.{Answered}
+use Rattle.spec.specs.Bytes.{accepts, setUp}
+use Rattle.spec.specs.Run.{Call, Begin, Read, Write, Advance, Abandon, Trim, Free, Memory, memoryOf, takes}
+use Rattle.spec.specs.Table.{Value, Values, has, Commit, Table, blank, Told, tell}
+use Rattle.spec.specs.Right.{tells, RightRun, AllUnfit, AllFit}
+
+-- ---- what a list of calls leaves
+
+-- the record and the buffers
+abbrev pub afterRun : List Call → Memory → Memory
+afterRun [] m = m
+afterRun (q ∷ qs) m = afterRun qs (memoryOf (takes q m))
+
+-- the plain table, told the calls and their answers
+abbrev pub tableAfter : List Call → Memory → Table → Table
+tableAfter [] m t = t
+tableAfter (q ∷ qs) m t = tableAfter qs (memoryOf (takes q m)) (tell q (tells q m) t)
+
+-- ---- the book
+
+-- each number is below the next
+abbrev pub Rising : List Commit → Type 0
+Rising [] = Unit {0}
+Rising (e ∷ []) = Unit {0}
+Rising (e ∷ f ∷ l) = (e .number < f .number) × Rising (f ∷ l)
+
+-- a commit in the book wrote the cell
+abbrev pub Committed : ℕ → List Commit → Type 0
+Committed x l = (e : Commit) × List·Memᴰ e l × (e .wrote x ≡ true)
+
+-- the cell has a value just where it was ever committed
+pub record Valued (x : ℕ) (t : Values) (l : List Commit) : Type 0 where
+  pub ever : has (t x) ≡ true → Committed x l
+  pub still : Committed x l → has (t x) ≡ true
+
+-- ---- reads of one transaction
+
+-- this progress does not end the transaction
+abbrev pub GoesOn : Progress → Type 0
+GoesOn (Stage g) = Unit {0}
+GoesOn (Waiting n) = Unit {0}
+GoesOn (Conflict n) = ⊥
+GoesOn (Done n) = ⊥
+
+-- a call so answered neither ends the transaction of client k nor is a write of it to cell x
+abbrev pub Spares : ℕ → ℕ → (q : Call) → Told q → Type 0
+Spares k x (Begin j) a = Unit {0}
+Spares k x (Read j y) a = Unit {0}
+Spares k x (Write j y v) a = j ≡ k → y ≢ x
+Spares k x (Advance j) a = j ≡ k → GoesOn a
+Spares k x (Abandon j) a = j ≢ k
+Spares k x Trim a = Unit {0}
+Spares k x Free a = Unit {0}
+
+-- no answered call of the list ends the transaction of client k or is a write of it to cell x
+abbrev pub Undisturbed : ℕ → ℕ → Memory → List Call → Type 0
+Undisturbed k x m [] = Unit {0}
+Undisturbed k x m (q ∷ qs) = ((a : Told q) → tells q m ≡ Answered a → Spares k x q a) × Undisturbed k x (memoryOf (takes q m)) qs
+
+-- two answered reads of one client at one cell, undisturbed between them, give the same
+abbrev pub Steady : Memory → List Call → Type 0
+Steady m qs =
+    (k x : ℕ) (before between rest : List Call) (u v : Option Value)
+    → qs ≡ before ++ (Read k x ∷ (between ++ (Read k x ∷ rest)))
+    → tells (Read k x) (afterRun before m) ≡ Answered u
+    → Undisturbed k x (afterRun (before ++ (Read k x ∷ [])) m) between
+    → tells (Read k x) (afterRun (before ++ (Read k x ∷ between)) m) ≡ Answered v
+    → u ≡ v
+
+-- ---- the demand
+
+pub record Demand3 (d c : List ℕ) (w l : ℕ) (qs : List Call) : Type 0 where
+  -- every answer is right by the plain table that was told the calls and answers before it: `Right` says what that is for each call, beside
+  -- document 01's sentences, from "the snapshot that Begin answers is the last of them" to the free figure "after an answered Trim"
+  pub right : RightRun (setUp d c w l .store .rows) 0 blank (memoryOf (setUp d c w l)) qs
+  -- "Numbers in the book rise"
+  pub rising : Rising (tableAfter qs (memoryOf (setUp d c w l)) blank .book)
+  -- "the cells with a value in the table: those are the cells ever committed"
+  pub valued : (x : ℕ) → Valued x (tableAfter qs (memoryOf (setUp d c w l)) blank .values) (tableAfter qs (memoryOf (setUp d c w l)) blank .book)
+  -- "repeated reads need no read set": what a client reads in a cell stays the same until its transaction ends, its own writes there apart
+  pub steady : Steady (memoryOf (setUp d c w l)) qs
+  -- "after a refused one every call gets 2"
+  pub unfit : accepts (length d) (length c) w l ≡ false → AllUnfit (memoryOf (setUp d c w l)) qs
+  -- after one that is not refused the store is never unfit
+  pub fit : accepts (length d) (length c) w l ≡ true → AllFit (memoryOf (setUp d c w l)) qs
