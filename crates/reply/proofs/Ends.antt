@@ -3,7 +3,7 @@
 use Prim.Native.Nat.{ℕ}
 use mathlib.Core.Path.{_≡_}
 use mathlib.Core.List.{List, _++_, append-assoc}
-use Rattle.spec.specs.Text.{decimalOf, numbered}
+use Rattle.spec.specs.Text.{numbered}
 
 pub numbered-end : (w : List ℕ) (n : ℕ) (e v : List ℕ) → numbered w n (e ++ v) ≡ numbered w n e ++ v
 unfolding numbered

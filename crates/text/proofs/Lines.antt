@@ -2,7 +2,7 @@
 -- from a place on is what it says of the bytes from the next place on.
 -- Assumes nothing.
 use Prim.Native.Nat.{ℕ, _+_, _*_, _≤_, _<_}
-use mathlib.Core.Path.{_≡_, refl, sym, ap, _∙_}
+use mathlib.Core.Path.{_≡_, refl}
 use mathlib.Core.Bool.{Bool, true, false}
 use mathlib.Core.List.{List, [], _∷_}
 use native.Mathlib.Numerals.{add-one}
@@ -10,11 +10,10 @@ use native.Mathlib.Nat.{not-suc-le-zero}
 use native.Mathlib.Omega.{arith}
 use lib.ListN.{length, getD, drop, drop-of-length-le}
 use lib.Seq.{drop-cons}
-use lib.Dec.{ltb, eqb}
+use lib.Dec.{eqb}
 use borrow.Author.Tests.{lt-ltb, le-ltb, eq-eqb, ne-eqb}
 use Rattle.sets.specs.Choice.{if_then_else_}
-use Rattle.spec.specs.Text.{begins, closes, digitVal, digitsFrom, decimalFrom, decimalAt}
-use Rattle.spec.specs.declared.Decimal.{Decimal}
+use Rattle.spec.specs.Text.{begins, digitVal, digitsFrom, decimalFrom, decimalAt}
 use Rattle.spec.specs.declared.Decimal.the-variants.{Is, No}
 
 -- ---- words

@@ -1,7 +1,7 @@
 -- Text in a buffer, which ends at a place: words, digits and hexadecimal digits appended byte by byte, and two appended texts as one.
 -- Assumes nothing.
 use Prim.Native.Nat.{ℕ, zero, suc, _+_, _-_, _/_, _%_, _≤_, _<_}
-use mathlib.Core.Path.{_≡_, refl, sym, ap, _∙_}
+use mathlib.Core.Path.{_≡_, refl, sym, _∙_}
 use mathlib.Core.List.{List, [], _∷_, _++_, append-nil, append-assoc}
 use native.Mathlib.Numerals.{add-one, add-two, sub-one}
 use native.Mathlib.Nat.{lt-irrefl}

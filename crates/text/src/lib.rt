@@ -5,7 +5,7 @@ use spec::One;
 use spec::Two;
 ghost use mathlib.Core.Path.{_≡_};
 ghost use mathlib.Core.Bool.{true};
-ghost use Prim.Native.Nat.{ℕ, _+_, _≤_, _<_};
+ghost use Prim.Native.Nat.{_+_, _≤_, _<_};
 ghost use lib.ListN.{length};
 ghost use Rattle.spec.specs.Text.{begins as Text·begins, stands as Text·stands, closes as Text·closes, digitVal, decimalAt, decimalOf, hexVal, hexAt, hexDigit, hexText, valueIn, oneAt, spacedAt, twoAt, setUpOf, writeOf, formIn, formOf};
 ghost use Rattle.text.specs.Print.{Put, Spelled};
@@ -55,7 +55,7 @@ fn closes(line: &[u8], at: usize) -> bool
     }
 }
 
-// ---- numbers and values in a line
+// ---- numbers and values in a line. Bytes 48 to 57 are the digits 0 to 9, 97 to 102 the letters a to f.
 
 // The value of a decimal digit, 10 for any other byte.
 fn digit_of(b: u8) -> u64

@@ -11,11 +11,13 @@ use Rattle.reply.proofs.open_line.Tie as tie
 returns : tie.Need-returns
 unfolding lineText
 returns c =
-    let h = c .before .before .before .before .before .before .before .before .before .before .before .before .before .before .put-head .ensures in
-    let n = c .before .before .before .before .before .before .before .before .put-numbered .ensures in
-    let s = c .before .before .put-numbered2 .ensures in (
-      rw (append-assoc, ← numbered-end (str "(snapshot ") (c .before .before .before .before .before .before .before .before .before .before .before .before .before .before .before .before .before .args .begun .snapshot) (41 ∷ []) (41 ∷ 10 ∷ [])) (put-then (h .0) (put-then (n .0) (s .0))),
-      omega (arith, h .1, n .1, s .1),
+    let s = c .before .before in
+    let n = s .before .before .before .before .before .before in
+    let h = n .before .before .before .before .before .before in
+    let b = h .before .before .before .args .begun in (
+      rw (append-assoc, ← numbered-end (str "(snapshot ") (b .snapshot) (41 ∷ []) (41 ∷ 10 ∷ []))
+          (put-then (h .put-head .ensures .0) (put-then (n .put-numbered .ensures .0) (s .put-numbered2 .ensures .0))),
+      omega (arith, h .put-head .ensures .1, n .put-numbered .ensures .1, s .put-numbered2 .ensures .1),
     )
 
 pub open-line-spec : {M : Type 1} → statement M

@@ -5,23 +5,28 @@ use Rattle.reply.proofs.progress_line.Tie as tie
 
 returns : tie.Need-returns
 returns c =
-    rw (c .before .before .before .before .before .before .before .before .before .answer .given .1, c .before .before .before .before .before .before .progress .given .1) (c .before .before .number-line .ensures)
+    let p = c .before .before .before .before .before .before in
+    rw (p .before .before .before .answer .given .1, p .progress .given .1) (c .before .before .number-line .ensures)
 
 returns-2 : tie.Need-returns-2
 returns-2 c =
-    rw (c .before .before .before .before .before .before .before .before .before .answer .given .1, c .before .before .before .before .before .before .progress2 .given .1) (c .before .before .number-line2 .ensures)
+    let p = c .before .before .before .before .before .before in
+    rw (p .before .before .before .answer .given .1, p .progress2 .given .1) (c .before .before .number-line2 .ensures)
 
 returns-3 : tie.Need-returns-3
 returns-3 c =
-    rw (c .before .before .before .before .before .before .before .before .before .answer .given .1, c .before .before .before .before .before .before .progress3 .given .1) (c .before .before .number-line3 .ensures)
+    let p = c .before .before .before .before .before .before in
+    rw (p .before .before .before .answer .given .1, p .progress3 .given .1) (c .before .before .number-line3 .ensures)
 
 returns-4 : tie.Need-returns-4
 returns-4 c =
-    rw (c .before .before .before .before .before .before .before .before .before .answer .given .1, c .before .before .before .before .before .before .progress4 .given .1) (c .before .before .number-line4 .ensures)
+    let p = c .before .before .before .before .before .before in
+    rw (p .before .before .before .answer .given .1, p .progress4 .given .1) (c .before .before .number-line4 .ensures)
 
 returns-5 : tie.Need-returns-5
 returns-5 c =
-    rw (c .before .before .before .before .before .before .answer2 .given .1, ← c .before .before .before .code-of .ensures) (c .before .before .refused-line .ensures)
+    let n = c .before .before .before in
+    rw (n .before .before .before .answer2 .given .1, ← n .code-of .ensures) (c .before .before .refused-line .ensures)
 
 pub progress-line-spec : {M : Type 1} → statement M
 progress-line-spec =

@@ -8,47 +8,56 @@ use Rattle.reply.proofs.put_head.Tie as tie
 returns : tie.Need-returns
 unfolding headText
 returns c =
-    rw (c .before .before .before .before .before .enum-told .given .1) (c .before .before .put .ensures, omega (arith, c .before .before .put .ensures .place))
+    let p = c .before .before .put .ensures in
+    rw (c .before .before .before .before .before .enum-told .given .1) (p, omega (arith, p .place))
 
 returns-2 : tie.Need-returns-2
 unfolding headText
 returns-2 c =
-    rw (c .before .before .before .before .before .before .form .given .1) (c .before .before .put-client .ensures .0, omega (arith, c .before .before .put-client .ensures .1))
+    let p = c .before .before .put-client .ensures in
+    rw (c .before .before .before .before .before .before .form .given .1) (p .0, omega (arith, p .1))
 
 returns-3 : tie.Need-returns-3
 unfolding headText
 returns-3 c =
-    rw (c .before .before .before .before .before .before .form2 .given .1) (c .before .before .put-cell .ensures .0, omega (arith, c .before .before .put-cell .ensures .1))
+    let p = c .before .before .put-cell .ensures in
+    rw (c .before .before .before .before .before .before .form2 .given .1) (p .0, omega (arith, p .1))
 
 returns-4 : tie.Need-returns-4
 unfolding headText
 returns-4 c =
-    rw (c .before .before .before .before .before .before .form3 .given .1) (c .before .before .put-cell2 .ensures .0, omega (arith, c .before .before .put-cell2 .ensures .1))
+    let p = c .before .before .put-cell2 .ensures in
+    rw (c .before .before .before .before .before .before .form3 .given .1) (p .0, omega (arith, p .1))
 
 returns-5 : tie.Need-returns-5
 unfolding headText
 returns-5 c =
-    rw (c .before .before .before .before .before .before .form4 .given .1) (c .before .before .put-client2 .ensures .0, omega (arith, c .before .before .put-client2 .ensures .1))
+    let p = c .before .before .put-client2 .ensures in
+    rw (c .before .before .before .before .before .before .form4 .given .1) (p .0, omega (arith, p .1))
 
 returns-6 : tie.Need-returns-6
 unfolding headText
 returns-6 c =
-    rw (c .before .before .before .before .before .before .form5 .given .1) (c .before .before .put-client3 .ensures .0, omega (arith, c .before .before .put-client3 .ensures .1))
+    let p = c .before .before .put-client3 .ensures in
+    rw (c .before .before .before .before .before .before .form5 .given .1) (p .0, omega (arith, p .1))
 
 returns-7 : tie.Need-returns-7
 unfolding headText
 returns-7 c =
-    rw (c .before .before .before .before .before .enum-told2 .given .1) (c .before .before .put2 .ensures, omega (arith, c .before .before .put2 .ensures .place))
+    let p = c .before .before .put2 .ensures in
+    rw (c .before .before .before .before .before .enum-told2 .given .1) (p, omega (arith, p .place))
 
 returns-8 : tie.Need-returns-8
 unfolding headText
 returns-8 c =
-    rw (c .before .before .before .before .before .enum-told3 .given .1) (c .before .before .put3 .ensures, omega (arith, c .before .before .put3 .ensures .place))
+    let p = c .before .before .put3 .ensures in
+    rw (c .before .before .before .before .before .enum-told3 .given .1) (p, omega (arith, p .place))
 
 returns-9 : tie.Need-returns-9
 unfolding headText
 returns-9 c =
-    rw (c .before .before .before .before .before .enum-told4 .given .1) (c .before .before .put4 .ensures, omega (arith, c .before .before .put4 .ensures .place))
+    let p = c .before .before .put4 .ensures in
+    rw (c .before .before .before .before .before .enum-told4 .given .1) (p, omega (arith, p .place))
 
 pub put-head-spec : {M : Type 1} → statement M
 put-head-spec =

@@ -8,18 +8,21 @@ use Rattle.reply.proofs.reading_line.Tie as tie
 
 returns : tie.Need-returns
 returns c =
-    rw (c .before .before .before .before .before .before .before .answer .given .1, c .before .before .before .before .enum-told .given .1) (c .before .before .value-line .ensures)
+    let g = c .before .before .before .before in
+    rw (g .before .before .before .answer .given .1, g .enum-told .given .1) (c .before .before .value-line .ensures)
 
 returns-2 : tie.Need-returns-2
 unfolding lineText
 returns-2 c =
-    let h = c .before .before .before .before .before .before .before .put-head .ensures in
     let e = c .before .before .put .ensures in
-    rw (c .before .before .before .before .before .before .before .before .before .before .before .before .answer .given .1, c .before .before .before .before .before .before .before .before .before .enum-told2 .given .1) (put-then (h .0) e, omega (arith, h .1, e .place))
+    let h = c .before .before .before .before .before .before .before .put-head .ensures in
+    let g = c .before .before .before .before .before .before .before .before .before in
+    rw (g .before .before .before .answer .given .1, g .enum-told2 .given .1) (put-then (h .0) e, omega (arith, h .1, e .place))
 
 returns-3 : tie.Need-returns-3
 returns-3 c =
-    rw (c .before .before .before .before .before .before .answer2 .given .1, ← c .before .before .before .code-of .ensures) (c .before .before .refused-line .ensures)
+    let n = c .before .before .before in
+    rw (n .before .before .before .answer2 .given .1, ← n .code-of .ensures) (c .before .before .refused-line .ensures)
 
 pub reading-line-spec : {M : Type 1} → statement M
 reading-line-spec =

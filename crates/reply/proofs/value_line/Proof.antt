@@ -9,17 +9,21 @@ use Rattle.reply.proofs.value_line.Tie as tie
 
 put-requires-2 : tie.Need-put-requires-2
 put-requires-2 c κs =
-    omega (arith, c .before .before .before .before .put-hex .ensures .place, c .before .before .before .before .before .before .before .before .put .ensures .place, hex-length (c .before .before .before .before .before .before .before .before .before .before .before .before .before .before .before .before .before .args .value .now))
+    let v = c .before .before .before .before in
+    let w = v .before .before .before .before in
+    let a = w .before .before .before .before .before .before .before .before .before .args in
+    omega (arith, v .put-hex .ensures .place, w .put .ensures .place, hex-length (a .value .now))
 
 returns : tie.Need-returns
 unfolding lineText
 returns c =
-    let h = c .before .before .before .before .before .before .before .before .before .before .before .before .before .before .before .before .put-head .ensures in
-    let w = c .before .before .before .before .before .before .before .before .before .before .before .put .ensures in
-    let v = c .before .before .before .before .before .before .before .put-hex .ensures in
-    let e = c .before .before .put2 .ensures in (
-      simp append-assoc (put-then (h .0) (put-then w (put-then v e))),
-      omega (arith, h .1, w .place, v .place, e .place, hex-length (c .before .before .before .before .before .before .before .before .before .before .before .before .before .before .before .before .before .before .before .before .args .value .now)),
+    let e = c .before .before in
+    let v = e .before .before .before .before .before in
+    let w = v .before .before .before .before in
+    let h = w .before .before .before .before .before in
+    let a = h .before .before .before .before .args in (
+      simp append-assoc (put-then (h .put-head .ensures .0) (put-then (w .put .ensures) (put-then (v .put-hex .ensures) (e .put2 .ensures)))),
+      omega (arith, h .put-head .ensures .1, w .put .ensures .place, v .put-hex .ensures .place, e .put2 .ensures .place, hex-length (a .value .now)),
     )
 
 pub value-line-spec : {M : Type 1} → statement M

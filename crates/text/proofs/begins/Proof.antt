@@ -23,11 +23,13 @@ loop-holds c = (omega arith, refl)
 
 returns-2 : tie.Need-returns-2 Inv-loop μ-loop
 returns-2 c =
-    sym (c .before .before .before .before .loop .inv .1 ∙ begins-other _ _ _ (c .before .before .before .loop-test .taken) (omega arith) (c .if2 .taken))
+    let t = c .before .before .before in
+    sym (t .before .loop .inv .1 ∙ begins-other _ _ _ (t .loop-test .taken) (omega arith) (c .if2 .taken))
 
 loop-again : tie.Need-loop-again Inv-loop μ-loop
 loop-again c =
-    (omega arith, c .before .before .before .before .loop .inv .1 ∙ begins-more _ _ _ (c .before .before .before .loop-test .taken) (omega arith) (c .if2 .left))
+    let t = c .before .before .before in
+    (omega arith, t .before .loop .inv .1 ∙ begins-more _ _ _ (t .loop-test .taken) (omega arith) (c .if2 .left))
 
 returns-3 : tie.Need-returns-3 Inv-loop μ-loop
 returns-3 c = sym (c .before .loop .inv .1 ∙ begins-end _ _ _ (c .loop-test .left))

@@ -10,7 +10,8 @@ use Rattle.text.proofs.decimal.Statement.{statement}
 use Rattle.text.proofs.decimal.Tie as tie
 
 abbrev Inv-loop : tie.InvT-loop
-Inv-loop line at first acc₀ i₀ acc i = (i ≤ length line) × (acc ≤ 4294967295) × (decimalAt line at ≡ digitsFrom acc i (drop i line))
+Inv-loop line at first acc₀ i₀ acc i =
+    (i ≤ length line) × (acc ≤ 4294967295) × (decimalAt line at ≡ digitsFrom acc i (drop i line))
 
 abbrev μ-loop : tie.MeasureT-loop
 μ-loop line at first acc₀ i₀ acc i = length line - i
@@ -28,23 +29,30 @@ loop-holds c =
 
 returns-3 : tie.Need-returns-3 Inv-loop μ-loop
 returns-3 c =
-    sym (c .before .before .before .before .loop .inv .2 ∙ digits-stop _ _ _ (c .before .digit-of2 .ensures) (c .before .before .before .loop-test .taken) _ (c .if3 .taken))
+    let d = c .before in
+    sym (d .before .before .before .loop .inv .2
+    ∙ digits-stop _ _ _ (d .digit-of2 .ensures) (d .before .before .loop-test .taken) _ (c .if3 .taken))
 
 returns-4 : tie.Need-returns-4 Inv-loop μ-loop
 returns-4 c =
-    sym (c .before .before .before .before .before .loop .inv .2 ∙ digits-zero _ _ _ (c .before .before .digit-of2 .ensures) (c .before .before .before .before .loop-test .taken) _ (c .before .if3 .left) (c .if4 .taken))
+    let d = c .before .before in
+    sym (d .before .before .before .loop .inv .2
+    ∙ digits-zero _ _ _ (d .digit-of2 .ensures) (d .before .before .loop-test .taken) _ (c .before .if3 .left) (c .if4 .taken))
 
 returns-5 : tie.Need-returns-5 Inv-loop μ-loop
 returns-5 c =
-    sym (c .before .before .before .before .before .before .loop .inv .2
-    ∙ digits-large _ _ _ (c .before .before .before .digit-of2 .ensures) (c .before .before .before .before .before .loop-test .taken) _ (c .before .before .if3 .left) (c .before .if4 .left) (c .if5 .taken))
+    let d = c .before .before .before in
+    sym (d .before .before .before .loop .inv .2
+    ∙ digits-large _ _ _ (d .digit-of2 .ensures) (d .before .before .loop-test .taken) _ (c .before .before .if3 .left) (c .before .if4 .left) (c .if5 .taken))
 
 loop-again : tie.Need-loop-again Inv-loop μ-loop
-loop-again c = (
-  omega arith,
-  omega arith,
-  c .before .before .before .before .before .before .loop .inv .2 ∙ digits-more _ _ _ (c .before .before .before .digit-of2 .ensures) (c .before .before .before .before .before .loop-test .taken) _ (c .before .before .if3 .left) (c .before .if4 .left) (c .if5 .left),
-)
+loop-again c =
+    let d = c .before .before .before in (
+      omega arith,
+      omega arith,
+      d .before .before .before .loop .inv .2
+          ∙ digits-more _ _ _ (d .digit-of2 .ensures) (d .before .before .loop-test .taken) _ (c .before .before .if3 .left) (c .before .if4 .left) (c .if5 .left),
+    )
 
 returns-6 : tie.Need-returns-6 Inv-loop μ-loop
 returns-6 c = sym (c .before .loop .inv .2 ∙ digits-end _ _ _ (c .loop-test .left))

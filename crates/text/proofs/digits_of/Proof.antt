@@ -10,7 +10,8 @@ use Rattle.text.proofs.digits_of.Statement.{statement}
 use Rattle.text.proofs.digits_of.Tie as tie
 
 abbrev Inv-loop : tie.InvT-loop
-Inv-loop n bytes₀ from₀ rest₀ bytes from rest = (from ≤ 10) × (length bytes ≡ 10) × (decimalOf n ≡ decimalOn from rest (drop from bytes))
+Inv-loop n bytes₀ from₀ rest₀ bytes from rest =
+    (from ≤ 10) × (length bytes ≡ 10) × (decimalOf n ≡ decimalOn from rest (drop from bytes))
 
 abbrev μ-loop : tie.MeasureT-loop
 μ-loop n bytes₀ from₀ rest₀ bytes from rest = from

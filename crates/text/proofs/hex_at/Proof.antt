@@ -18,11 +18,15 @@ returns c = sym (c .before .before .loop .inv ∙ hex-short _ _ _ (c .before .lo
 
 returns-2 : tie.Need-returns-2 Inv-loop μ-loop
 returns-2 c =
-    sym (c .before .before .before .before .before .loop .inv ∙ hex-other _ _ _ (c .before .hex-of .ensures .0) (c .before .before .before .if1 .left) _ (c .before .before .before .before .loop-test .taken) (c .if2 .taken))
+    let d = c .before .before .before in
+    sym (d .before .before .loop .inv
+    ∙ hex-other _ _ _ (c .before .hex-of .ensures .0) (d .if1 .left) _ (d .before .loop-test .taken) (c .if2 .taken))
 
 loop-again : tie.Need-loop-again Inv-loop μ-loop
 loop-again c =
-    c .before .before .before .before .before .loop .inv ∙ hex-more _ _ _ (c .before .hex-of .ensures .0) (c .before .before .before .if1 .left) _ (c .before .before .before .before .loop-test .taken) (c .if2 .left)
+    let d = c .before .before .before in
+    d .before .before .loop .inv
+    ∙ hex-more _ _ _ (c .before .hex-of .ensures .0) (d .if1 .left) _ (d .before .loop-test .taken) (c .if2 .left)
 
 returns-3 : tie.Need-returns-3 Inv-loop μ-loop
 returns-3 c = sym (c .before .loop .inv ∙ hex-end (c .before .loop .left) _ (c .loop-test .left))

@@ -1,33 +1,40 @@
 -- Each answer is the definition at the tests that led to it. Assumes nothing.
+use native.Mathlib.Omega.{arith}
 use borrow.Author.Needs.{needs}
 use borrow.Author.Tests.{lt-ltb, le-ltb}
-use native.Mathlib.Omega.{arith}
 use Rattle.spec.specs.Text.{hexVal}
 use Rattle.text.proofs.hex_of.Statement.{statement}
 use Rattle.text.proofs.hex_of.Tie as tie
 
 returns : tie.Need-returns
 unfolding hexVal
-returns c = (simp (lt-ltb _ _ (c .if1 .taken)), omega arith)
+returns c =
+    let b = c .before .args .b in
+    (simp (lt-ltb b 48 (omega arith)), omega arith)
 
 returns-2 : tie.Need-returns-2
 unfolding hexVal
-returns-2 c = (simp (le-ltb _ _ (c .before .if1 .left), lt-ltb _ _ (c .if2 .taken)), omega arith)
+returns-2 c =
+    let b = c .before .before .args .b in
+    (simp (le-ltb b 48 (omega arith), lt-ltb b 58 (omega arith)), omega arith)
 
 returns-3 : tie.Need-returns-3
 unfolding hexVal
 returns-3 c =
-    (simp (le-ltb _ _ (c .before .before .if1 .left), le-ltb _ _ (c .before .if2 .left), lt-ltb _ _ (c .if3 .taken)), omega arith)
+    let b = c .before .before .before .args .b in
+    (simp (le-ltb b 48 (omega arith), le-ltb b 58 (omega arith), lt-ltb b 97 (omega arith)), omega arith)
 
 returns-4 : tie.Need-returns-4
 unfolding hexVal
 returns-4 c =
-    (simp (le-ltb _ _ (c .before .before .before .if1 .left), le-ltb _ _ (c .before .before .if2 .left), le-ltb _ _ (c .before .if3 .left), lt-ltb _ _ (c .if4 .taken)), omega arith)
+    let b = c .before .before .before .before .args .b in
+    (simp (le-ltb b 48 (omega arith), le-ltb b 58 (omega arith), le-ltb b 97 (omega arith), lt-ltb b 103 (omega arith)), omega arith)
 
 returns-5 : tie.Need-returns-5
 unfolding hexVal
 returns-5 c =
-    (simp (le-ltb _ _ (c .before .before .before .if1 .left), le-ltb _ _ (c .before .before .if2 .left), le-ltb _ _ (c .before .if3 .left), le-ltb _ _ (c .if4 .left)), omega arith)
+    let b = c .before .before .before .before .args .b in
+    (simp (le-ltb b 48 (omega arith), le-ltb b 58 (omega arith), le-ltb b 97 (omega arith), le-ltb b 103 (omega arith)), omega arith)
 
 pub hex-of-spec : {M : Type 1} → statement M
 hex-of-spec =

@@ -7,12 +7,14 @@ use Rattle.text.proofs.one_at.Tie as tie
 returns : tie.Need-returns
 unfolding oneAt
 returns c =
-    rw (← c .before .before .before .before .before .decimal .ensures, c .before .before .before .value .given .1, ← c .before .closes .ensures, c .if1 .taken)
+    let d = c .before .before .before in
+    rw (← d .before .before .decimal .ensures, d .value .given .1, ← c .before .closes .ensures, c .if1 .taken)
 
 returns-2 : tie.Need-returns-2
 unfolding oneAt
 returns-2 c =
-    rw (← c .before .before .before .before .before .decimal .ensures, c .before .before .before .value .given .1, ← c .before .closes .ensures, c .if1 .left)
+    let d = c .before .before .before in
+    rw (← d .before .before .decimal .ensures, d .value .given .1, ← c .before .closes .ensures, c .if1 .left)
 
 returns-3 : tie.Need-returns-3
 unfolding oneAt

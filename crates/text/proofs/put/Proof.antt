@@ -10,7 +10,8 @@ use Rattle.text.proofs.put.Statement.{statement}
 use Rattle.text.proofs.put.Tie as tie
 
 abbrev Inv-loop : tie.InvT-loop
-Inv-loop out₀ at word i₀ o₀ out i o = (o ≡ at + i) × (i ≤ length word) × (length out ≡ length out₀) × (take o out ≡ take at out₀ ++ take i word)
+Inv-loop out₀ at word i₀ o₀ out i o =
+    (o ≡ at + i) × (i ≤ length word) × (length out ≡ length out₀) × (take o out ≡ take at out₀ ++ take i word)
 
 abbrev μ-loop : tie.MeasureT-loop
 μ-loop out₀ at word i₀ o₀ out i o = length word - i

@@ -11,7 +11,11 @@ use Rattle.text.proofs.put_hex.Statement.{statement}
 use Rattle.text.proofs.put_hex.Tie as tie
 
 abbrev Inv-loop : tie.InvT-loop
-Inv-loop out₀ at value i₀ o₀ out i o = (o ≡ at + i + i) × (i ≤ length value) × (length out ≡ length out₀) × (take o out ++ hexText (drop i value) ≡ take at out₀ ++ hexText value)
+Inv-loop out₀ at value i₀ o₀ out i o =
+    (o ≡ at + i + i)
+    × (i ≤ length value)
+    × (length out ≡ length out₀)
+    × (take o out ++ hexText (drop i value) ≡ take at out₀ ++ hexText value)
 
 abbrev μ-loop : tie.MeasureT-loop
 μ-loop out₀ at value i₀ o₀ out i o = length value - i
@@ -29,7 +33,8 @@ loop-again c =
       omega arith,
       omega arith,
       simp length-set (l .inv .2),
-      rw (c .before .hex-digit .ensures, c .hex-digit2 .ensures) (hex-put _ _ _ _ _ (l .inv .3) h (c .before .before .before .loop-test .taken)),
+      rw (c .before .hex-digit .ensures, c .hex-digit2 .ensures)
+          (hex-put _ _ _ _ _ (l .inv .3) h (c .before .before .before .loop-test .taken)),
     )
 
 returns : tie.Need-returns Inv-loop μ-loop

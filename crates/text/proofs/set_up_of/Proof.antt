@@ -7,12 +7,14 @@ use Rattle.text.proofs.set_up_of.Tie as tie
 returns : tie.Need-returns
 unfolding setUpOf
 returns c =
-    rw (← c .before .before .before .before .before .before .before .spaced-at .ensures, c .before .before .before .before .before .value .given .1, ← c .before .before .before .two-at .ensures, c .before .first .given .1)
+    let d = c .before .before .before .before .before in
+    rw (← d .before .before .spaced-at .ensures, d .value .given .1, ← c .before .before .before .two-at .ensures, c .before .first .given .1)
 
 returns-2 : tie.Need-returns-2
 unfolding setUpOf
 returns-2 c =
-    rw (← c .before .before .before .before .before .before .spaced-at .ensures, c .before .before .before .before .value .given .1, ← c .before .before .two-at .ensures, c .enum-told .given .1)
+    let d = c .before .before .before .before in
+    rw (← d .before .before .spaced-at .ensures, d .value .given .1, ← c .before .before .two-at .ensures, c .enum-told .given .1)
 
 returns-3 : tie.Need-returns-3
 unfolding setUpOf

@@ -11,12 +11,14 @@ add-t9 c = omega (arith, c .before .stands .ensures .1 (c .if1 .taken))
 returns : tie.Need-returns
 unfolding spacedAt
 returns c =
-    rw (← c .before .before .before .before .before .decimal .ensures, c .before .before .before .value .given .1, ← c .before .stands .ensures .0, c .if1 .taken)
+    let d = c .before .before .before in
+    rw (← d .before .before .decimal .ensures, d .value .given .1, ← c .before .stands .ensures .0, c .if1 .taken)
 
 returns-2 : tie.Need-returns-2
 unfolding spacedAt
 returns-2 c =
-    rw (← c .before .before .before .before .before .decimal .ensures, c .before .before .before .value .given .1, ← c .before .stands .ensures .0, c .if1 .left)
+    let d = c .before .before .before in
+    rw (← d .before .before .decimal .ensures, d .value .given .1, ← c .before .stands .ensures .0, c .if1 .left)
 
 returns-3 : tie.Need-returns-3
 unfolding spacedAt

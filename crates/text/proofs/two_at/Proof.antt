@@ -7,12 +7,14 @@ use Rattle.text.proofs.two_at.Tie as tie
 returns : tie.Need-returns
 unfolding twoAt
 returns c =
-    rw (← c .before .before .before .before .before .before .before .spaced-at .ensures, c .before .before .before .before .before .value .given .1, ← c .before .before .before .one-at .ensures, c .before .second .given .1)
+    let d = c .before .before .before .before .before in
+    rw (← d .before .before .spaced-at .ensures, d .value .given .1, ← c .before .before .before .one-at .ensures, c .before .second .given .1)
 
 returns-2 : tie.Need-returns-2
 unfolding twoAt
 returns-2 c =
-    rw (← c .before .before .before .before .before .before .spaced-at .ensures, c .before .before .before .before .value .given .1, ← c .before .before .one-at .ensures, c .enum-told .given .1)
+    let d = c .before .before .before .before in
+    rw (← d .before .before .spaced-at .ensures, d .value .given .1, ← c .before .before .one-at .ensures, c .enum-told .given .1)
 
 returns-3 : tie.Need-returns-3
 unfolding twoAt

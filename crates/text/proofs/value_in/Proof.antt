@@ -12,7 +12,8 @@ use Rattle.text.proofs.value_in.Statement.{statement}
 use Rattle.text.proofs.value_in.Tie as tie
 
 abbrev Inv-loop : tie.InvT-loop
-Inv-loop line at v₀ i₀ o₀ v i o = (i ≤ 16) × (o ≡ at + i + i) × (length v ≡ 16) × (take i v ++ hexBytes (16 - i) (drop o line) ≡ hexBytes 16 (drop at line))
+Inv-loop line at v₀ i₀ o₀ v i o =
+    (i ≤ 16) × (o ≡ at + i + i) × (length v ≡ 16) × (take i v ++ hexBytes (16 - i) (drop o line) ≡ hexBytes 16 (drop at line))
 
 abbrev μ-loop : tie.MeasureT-loop
 μ-loop line at v₀ i₀ o₀ v i o = 16 - i

@@ -12,62 +12,40 @@ returns c = rw (← c .before .before .spaced-at .ensures, c .enum-told .given .
 returns-2 : tie.Need-returns-2
 unfolding writeOf
 returns-2 c =
-    rw (← c .before .before .before .before .before .before .spaced-at .ensures, c .before .before .before .before .client .given .1, ← c .before .before .spaced-at2 .ensures, c .enum-told2 .given .1)
+    let k = c .before .before .before .before in
+    rw (← k .before .before .spaced-at .ensures, k .client .given .1, ← c .before .before .spaced-at2 .ensures, c .enum-told2 .given .1)
 
 returns-3 : tie.Need-returns-3
 unfolding writeOf
 returns-3 c =
-    let d = c .before .before .before .before .before .before in
-    rw (
-      ← d .before .before .before .before .before .before .spaced-at .ensures,
-      d .before .before .before .before .client .given .1,
-      ← d .before .before .spaced-at2 .ensures,
-      d .cell .given .1,
-      ← c .before .before .before .closes .ensures,
-      c .before .before .if2 .taken,
-      ← c .before .hex-at .ensures,
-      c .if3 .taken,
-    )
+    let x = c .before .before .before .before .before .before in
+    let k = x .before .before .before .before in
+    rw (← k .before .before .spaced-at .ensures, k .client .given .1, ← x .before .before .spaced-at2 .ensures, x .cell .given .1)
+    (rw (← c .before .before .before .closes .ensures, c .before .before .if2 .taken, ← c .before .hex-at .ensures, c .if3 .taken))
 
 returns-4 : tie.Need-returns-4
 unfolding writeOf
 returns-4 c =
-    let d = c .before .before .before .before .before .before in
-    rw (
-      ← d .before .before .before .before .before .before .spaced-at .ensures,
-      d .before .before .before .before .client .given .1,
-      ← d .before .before .spaced-at2 .ensures,
-      d .cell .given .1,
-      ← c .before .before .before .closes .ensures,
-      c .before .before .if2 .taken,
-      ← c .before .hex-at .ensures,
-      c .if3 .left,
-    )
+    let x = c .before .before .before .before .before .before in
+    let k = x .before .before .before .before in
+    rw (← k .before .before .spaced-at .ensures, k .client .given .1, ← x .before .before .spaced-at2 .ensures, x .cell .given .1)
+    (rw (← c .before .before .before .closes .ensures, c .before .before .if2 .taken, ← c .before .hex-at .ensures, c .if3 .left))
 
 returns-5 : tie.Need-returns-5
 unfolding writeOf
 returns-5 c =
-    let d = c .before .before .before .before in
-    rw (
-      ← d .before .before .before .before .before .before .spaced-at .ensures,
-      d .before .before .before .before .client .given .1,
-      ← d .before .before .spaced-at2 .ensures,
-      d .cell .given .1,
-      ← c .before .closes .ensures,
-      c .if2 .left,
-    )
+    let x = c .before .before .before .before in
+    let k = x .before .before .before .before in
+    rw (← k .before .before .spaced-at .ensures, k .client .given .1, ← x .before .before .spaced-at2 .ensures, x .cell .given .1)
+    (rw (← c .before .closes .ensures, c .if2 .left))
 
 returns-6 : tie.Need-returns-6
 unfolding writeOf
 returns-6 c =
-    let d = c .before .before in
-    rw (
-      ← d .before .before .before .before .before .before .spaced-at .ensures,
-      d .before .before .before .before .client .given .1,
-      ← d .before .before .spaced-at2 .ensures,
-      d .cell .given .1,
-      closes-past _ _ (c .if1 .left),
-    )
+    let x = c .before .before in
+    let k = x .before .before .before .before in
+    rw (← k .before .before .spaced-at .ensures, k .client .given .1, ← x .before .before .spaced-at2 .ensures, x .cell .given .1)
+    (rw (closes-past _ _ (c .if1 .left)))
 
 pub write-of-spec : {M : Type 1} → statement M
 write-of-spec =
