@@ -1,0 +1,140 @@
+-- The lines of an input. The search for a newline goes byte by byte; the first line ends at the first newline, and the other lines are those of
+-- what stands behind it; so an answer to that line, and the answers to the lines behind it, are the answers to all.
+-- Assumes nothing.
+use Prim.Native.Nat.{ℕ, zero, suc, _+_, _-_, _≤_, _<_}
+use mathlib.Core.Path.{_≡_, refl, sym, ap, subst, _∙_}
+use mathlib.Core.Bool.{Bool, true, false}
+use mathlib.Core.Logic.{_⊎_, inl, inr, ⊎-elim}
+use mathlib.Core.List.{List, [], _∷_, _++_, append-assoc}
+use native.Mathlib.Numerals.{add-one}
+use native.Mathlib.Omega.{arith}
+use borrow.Author.Tests.{eq-eqb, ne-eqb}
+use lib.ListN.{length, getD, take, drop, length-drop, drop-of-length-le}
+use lib.Seq.{drop-cons, drop-drop}
+use lib.Dec.{eqb}
+use Rattle.spec.specs.Session.{World, answerTo, answers}
+use Rattle.text.specs.Print.{Put}
+use Rattle.session.specs.Lines.{newlineFrom, push, linesOf, unlessLines, restOf}
+use Rattle.session.specs.Spoken.{Spoken, worldAfter}
+
+-- ---- one turn of the search for a newline
+
+module _ (s : List ℕ) (i : ℕ) where
+  pub newline-end : length s ≤ i → newlineFrom i (drop i s) ≡ i
+  unfolding newlineFrom
+  newline-end h = rw (drop-of-length-le s h)
+
+  pub newline-found : i < length s → getD s i 0 ≡ 10 → newlineFrom i (drop i s) ≡ i
+  unfolding newlineFrom
+  newline-found h e = rw (drop-cons s i 0 h, eq-eqb (getD s i 0) 10 e)
+
+  pub newline-more : i < length s → (getD s i 0 ≡ 10 → ⊥) → newlineFrom i (drop i s) ≡ newlineFrom (i + 1) (drop (i + 1) s)
+  unfolding newlineFrom
+  newline-more h n = rw (drop-cons s i 0 h, ne-eqb (getD s i 0) 10 n, add-one i)
+
+-- ---- the lines, one clause each
+
+either : (x : Bool) → (x ≡ true) ⊎ (x ≡ false)
+either true = inl refl
+either false = inr refl
+
+newline-from : (s : List ℕ) (i : ℕ) → i ≤ newlineFrom i s
+unfolding newlineFrom
+newline-from [] i = omega arith
+newline-from (b ∷ s) i = ⊎-elim (λ e. rw e (omega arith)) (λ e. rw e (omega (arith, newline-from s (i + 1)))) (either (eqb b 10))
+
+newline-here : (b : ℕ) (t : List ℕ) (i : ℕ) → eqb b 10 ≡ true → newlineFrom i (b ∷ t) ≡ i
+unfolding newlineFrom
+newline-here b t i e = rw e
+
+newline-past : (b : ℕ) (t : List ℕ) (i : ℕ) → eqb b 10 ≡ false → newlineFrom i (b ∷ t) ≡ newlineFrom (i + 1) t
+unfolding newlineFrom
+newline-past b t i e = rw e
+
+newline-nil : (i : ℕ) → newlineFrom i [] ≡ i
+unfolding newlineFrom
+newline-nil i = refl
+
+lines-nil : linesOf [] ≡ []
+unfolding linesOf
+lines-nil = refl
+
+rest-nil : restOf [] ≡ []
+unfolding restOf
+rest-nil = refl
+
+module _ (b : ℕ) (s : List ℕ) where
+  lines-here : eqb b 10 ≡ true → linesOf (b ∷ s) ≡ [] ∷ linesOf s
+  unfolding linesOf
+  lines-here e = rw e
+
+  lines-past : eqb b 10 ≡ false → linesOf (b ∷ s) ≡ push b (linesOf s)
+  unfolding linesOf
+  lines-past e = rw e
+
+  rest-here : eqb b 10 ≡ true → restOf (b ∷ s) ≡ restOf s
+  unfolding restOf
+  rest-here e = rw e
+
+  rest-past : eqb b 10 ≡ false → restOf (b ∷ s) ≡ unlessLines (linesOf s) b (restOf s)
+  unfolding restOf
+  rest-past e = rw e
+
+-- the first line of t, and what follows it
+lines-first : (t : List ℕ) (i e : ℕ) → newlineFrom i t ≡ e → e < i + length t → linesOf t ≡ take (e - i) t ∷ linesOf (drop (suc (e - i)) t)
+lines-first [] i e h l = absurd (omega (arith, newline-nil i))
+lines-first (b ∷ t) i e h l =
+    ⊎-elim
+    (λ q.
+    let z : e - i ≡ 0 = omega (arith, newline-here b t i q) in
+    rw z (lines-here b t q))
+    (λ q.
+    let g : newlineFrom (i + 1) t ≡ e = sym (newline-past b t i q) ∙ h in
+    let m : i + 1 ≤ e = omega (arith, newline-from t (i + 1)) in
+    let z : e - i ≡ suc (e - (i + 1)) = omega arith in
+    let k : e < i + 1 + length t = omega arith in
+    rw z (lines-past b t q ∙ ap (push b) (lines-first t (i + 1) e g k)))
+    (either (eqb b 10))
+
+pub lines-at : (s : List ℕ) (from e : ℕ) → e ≡ newlineFrom from (drop from s) → from ≤ e → e < length s
+    → linesOf (drop from s) ≡ take (e - from) (drop from s) ∷ linesOf (drop (e + 1) s)
+lines-at s from e h m l =
+    let k : e < from + length (drop from s) = simp length-drop (omega arith) in
+    let z : from + suc (e - from) ≡ e + 1 = omega arith in
+    lines-first (drop from s) from e (sym h) k ∙ rw (drop-drop, z)
+
+-- ---- a chunk behind a chunk: the lines of the first, then those of what it leaves with the second behind it. So it does not matter how an
+-- input is cut.
+
+push-append : (b : ℕ) (ls ks : List (List ℕ)) (r t : List ℕ) → eqb b 10 ≡ false → ks ≡ linesOf (r ++ t)
+    → push b (ls ++ ks) ≡ push b ls ++ linesOf (unlessLines ls b r ++ t)
+push-append b [] ks r t q e = rw (lines-past b (r ++ t) q, e)
+push-append b (l ∷ ls) ks r t q e = rw e
+
+pub lines-append : (s t : List ℕ) → linesOf (s ++ t) ≡ linesOf s ++ linesOf (restOf s ++ t)
+lines-append [] t = rw (lines-nil, rest-nil)
+lines-append (b ∷ s) t =
+    ⊎-elim
+    (λ q. rw (lines-here b (s ++ t) q, lines-here b s q, rest-here b s q, lines-append s t))
+    (λ q.
+    rw (lines-past b (s ++ t) q, lines-past b s q, rest-past b s q, lines-append s t)
+    (push-append b (linesOf s) (linesOf (restOf s ++ t)) (restOf s) t q refl))
+    (either (eqb b 10))
+
+-- ---- one turn of a loop over lines
+
+answers-cons : (w : World) (l : List ℕ) (ls : List (List ℕ)) → answers w (l ∷ ls) ≡ answerTo l w .text ++ answers (answerTo l w .world) ls
+unfolding answers
+answers-cons w l ls = refl
+
+after-cons : (w : World) (l : List ℕ) (ls : List (List ℕ)) → worldAfter w (l ∷ ls) ≡ worldAfter (answerTo l w .world) ls
+unfolding worldAfter
+after-cons w l ls = refl
+
+module _ (s : List ℕ) (from e : ℕ) (h : e ≡ newlineFrom from (drop from s)) (m : from ≤ e) (l : e < length s) (w w′ : World) (out out′ : List ℕ) (at used : ℕ) (p : Spoken (answerTo (take (e - from) (drop from s)) w) w′ out at out′ used) where
+  pub text-more : (whole : List ℕ) → take at out ++ answers w (linesOf (drop from s)) ≡ whole
+      → take used out′ ++ answers w′ (linesOf (drop (e + 1) s)) ≡ whole
+  text-more whole a = rw (p .text .text, append-assoc, p .world) (rw (lines-at s from e h m l, answers-cons) at a)
+
+  pub state-more : (whole : World) → worldAfter w (linesOf (drop from s)) ≡ whole → worldAfter w′ (linesOf (drop (e + 1) s)) ≡ whole
+  state-more whole a = rw (p .world) (rw (lines-at s from e h m l, after-cons) at a)

@@ -1,0 +1,4 @@
+pub mod Chunks
+pub mod Fronts
+pub mod Moves
+pub mod Readings

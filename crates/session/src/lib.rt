@@ -1,0 +1,371 @@
+// The answer to a line, on the record and the program's two buffers, and to the whole lines of a chunk of input. Definitions: crate spec,
+// specs/Session.antt.
+use spec::FigureAnswer;
+use spec::Form;
+use spec::ReadAnswer;
+use spec::Reading;
+use spec::Store;
+ghost use mathlib.Core.Path.{_≡_};
+ghost use Prim.Native.Nat.{ℕ, _+_, _*_, _-_, _≤_};
+ghost use lib.ListN.{length, take, drop};
+ghost use Rattle.spec.specs.Answers.{Answer, readOf, figureOf, noForm};
+ghost use Rattle.spec.specs.Calls.{free, begin, read, write, abandon, trim};
+ghost use Rattle.spec.specs.Steps.{advance};
+ghost use Rattle.spec.specs.Text.{valueIn, freeText, droppedText, begunText, readingText, progressText, refusedText, lineText};
+ghost use Rattle.spec.specs.Session.{worldOf, responds, called, said, valueAt, setUpResponse, answerTo};
+ghost use Rattle.store.specs.Reads.{valueFrom};
+ghost use Rattle.session.specs.Lines.{newlineFrom};
+ghost use Rattle.session.specs.Spoken.{Front, Spoken, keptOf, Fed};
+
+pub struct Answered {
+    pub store: Store,
+    pub used: usize,
+}
+
+// How many bytes of a buffer a call is lent: n, or all where the buffer has fewer.
+fn front(n: usize, len: usize) -> usize
+    ensures { λ r. ⌜ r ≤ len ⌝ }
+    ensures { λ r. ⌜ Front n len r ⌝ }
+{
+    if len < n { len } else { n }
+}
+
+// ---- the answer to each form
+
+// The record after a set-up: a refused one keeps the old record.
+fn kept(old: Store, new: Store, answer: FigureAnswer) -> Store
+    ensures { λ r. ⌜ r ≡ keptOf old new answer ⌝ }
+{
+    match answer {
+        FigureAnswer::Answered(_) => new,
+        FigureAnswer::Refused(_) => old,
+    }
+}
+
+fn set_up_said(
+    store: Store,
+    count: u32,
+    first: u32,
+    limit: u32,
+    rows: &mut [u8],
+    commits: &mut [u8],
+    out: &mut [u8],
+    at: usize,
+) -> Answered
+    requires { ⌜ at + 90 ≤ length (now out) ⌝ }
+    ensures { λ r. ⌜ Spoken (setUpResponse (Form.SetUp count first limit) count first limit (worldOf store (now (rows .entry)) (now (commits .entry)))) (worldOf (r .store) (now (rows .exit)) (now (commits .exit))) (now (out .entry)) at (now (out .exit)) (r .used) ⌝ }
+{
+    let form = Form::SetUp {
+        rows: count,
+        first,
+        limit,
+    };
+    if 1024 < count {
+        let used = reply::refused_line(out, at, form, 1);
+        return Answered { store, used };
+    }
+    let d = front(24 * count as usize, rows.len());
+    let c = front(8 * count as usize, commits.len());
+    let turn = store::set_up(&mut rows[..d], &mut commits[..c], first, limit);
+    let answer = turn.answer;
+    let next = turn.store;
+    let used = reply::free_line(out, at, form, answer);
+    Answered {
+        store: kept(store, next, answer),
+        used,
+    }
+}
+
+fn begin_said(
+    store: Store,
+    client: u32,
+    rows: &[u8],
+    commits: &[u8],
+    out: &mut [u8],
+    at: usize,
+) -> Answered
+    requires { ⌜ at + 90 ≤ length (now out) ⌝ }
+    ensures { λ r. ⌜ Spoken (said (Form.Begin client) begunText (worldOf store (now (rows .entry)) (now (commits .entry))) (called (begin client) (worldOf store (now (rows .entry)) (now (commits .entry))))) (worldOf (r .store) (now (rows .entry)) (now (commits .entry))) (now (out .entry)) at (now (out .exit)) (r .used) ⌝ }
+{
+    let d = front(24 * store.rows as usize, rows.len());
+    let c = front(8 * store.rows as usize, commits.len());
+    let turn = store::begin(store, &rows[..d], &commits[..c], client);
+    let answer = turn.answer;
+    let next = turn.store;
+    let used = reply::begun_line(out, at, Form::Begin(client), answer);
+    Answered { store: next, used }
+}
+
+// The sixteen bytes that a read's answer names, none for any other answer.
+fn value_read<'a>(rows: &'a [u8], answer: ReadAnswer) -> &'a [u8]
+    ensures { λ r. ⌜ now r ≡ valueFrom (now (rows .entry)) (readOf answer) ⌝ }
+{
+    match answer {
+        ReadAnswer::Answered(reading) => match reading {
+            Reading::Value(at) => store::value(rows, at),
+            Reading::Unwritten => &rows[0..0],
+        },
+        ReadAnswer::Refused(_) => &rows[0..0],
+    }
+}
+
+fn read_said(
+    store: Store,
+    client: u32,
+    cell: u32,
+    rows: &[u8],
+    commits: &[u8],
+    out: &mut [u8],
+    at: usize,
+) -> Answered
+    requires { ⌜ at + 90 ≤ length (now out) ⌝ }
+    ensures { λ r. ⌜ Spoken (said (Form.Read client cell) (λ g. readingText (valueAt (worldOf store (now (rows .entry)) (now (commits .entry))) g) g) (worldOf store (now (rows .entry)) (now (commits .entry))) (called (read client cell) (worldOf store (now (rows .entry)) (now (commits .entry))))) (worldOf (r .store) (now (rows .entry)) (now (commits .entry))) (now (out .entry)) at (now (out .exit)) (r .used) ⌝ }
+{
+    let d = front(24 * store.rows as usize, rows.len());
+    let c = front(8 * store.rows as usize, commits.len());
+    let turn = store::read(store, &rows[..d], &commits[..c], client, cell);
+    let answer = turn.answer;
+    let next = turn.store;
+    let value = value_read(rows, answer);
+    let used = reply::reading_line(out, at, Form::Read(client, cell), answer, value);
+    Answered { store: next, used }
+}
+
+// place is that of the value's digits in the line.
+fn write_said(
+    store: Store,
+    client: u32,
+    cell: u32,
+    line: &[u8],
+    place: usize,
+    rows: &mut [u8],
+    commits: &[u8],
+    out: &mut [u8],
+    at: usize,
+) -> Answered
+    requires { ⌜ at + 90 ≤ length (now out) ⌝ }
+    ensures { λ r. ⌜ Spoken (said (Form.Write client cell place) freeText (worldOf store (now (rows .entry)) (now (commits .entry))) (called (write client cell (valueIn (now (line .entry)) place)) (worldOf store (now (rows .entry)) (now (commits .entry))))) (worldOf (r .store) (now (rows .exit)) (now (commits .entry))) (now (out .entry)) at (now (out .exit)) (r .used) ⌝ }
+{
+    let d = front(24 * store.rows as usize, rows.len());
+    let c = front(8 * store.rows as usize, commits.len());
+    let value = text::value_in(line, place);
+    let turn = store::write(store, &mut rows[..d], &commits[..c], client, cell, &value);
+    let answer = turn.answer;
+    let next = turn.store;
+    let used = reply::free_line(
+        out,
+        at,
+        Form::Write {
+            client,
+            cell,
+            value: place,
+        },
+        answer,
+    );
+    Answered { store: next, used }
+}
+
+fn advance_said(
+    store: Store,
+    client: u32,
+    rows: &mut [u8],
+    commits: &mut [u8],
+    out: &mut [u8],
+    at: usize,
+) -> Answered
+    requires { ⌜ at + 90 ≤ length (now out) ⌝ }
+    ensures { λ r. ⌜ Spoken (said (Form.Advance client) progressText (worldOf store (now (rows .entry)) (now (commits .entry))) (called (advance client) (worldOf store (now (rows .entry)) (now (commits .entry))))) (worldOf (r .store) (now (rows .exit)) (now (commits .exit))) (now (out .entry)) at (now (out .exit)) (r .used) ⌝ }
+{
+    let d = front(24 * store.rows as usize, rows.len());
+    let c = front(8 * store.rows as usize, commits.len());
+    let turn = store::advance(store, &mut rows[..d], &mut commits[..c], client);
+    let answer = turn.answer;
+    let next = turn.store;
+    let used = reply::progress_line(out, at, Form::Advance(client), answer);
+    Answered { store: next, used }
+}
+
+fn abandon_said(
+    store: Store,
+    client: u32,
+    rows: &mut [u8],
+    commits: &[u8],
+    out: &mut [u8],
+    at: usize,
+) -> Answered
+    requires { ⌜ at + 90 ≤ length (now out) ⌝ }
+    ensures { λ r. ⌜ Spoken (said (Form.Abandon client) freeText (worldOf store (now (rows .entry)) (now (commits .entry))) (called (abandon client) (worldOf store (now (rows .entry)) (now (commits .entry))))) (worldOf (r .store) (now (rows .exit)) (now (commits .entry))) (now (out .entry)) at (now (out .exit)) (r .used) ⌝ }
+{
+    let d = front(24 * store.rows as usize, rows.len());
+    let c = front(8 * store.rows as usize, commits.len());
+    let turn = store::abandon(store, &mut rows[..d], &commits[..c], client);
+    let answer = turn.answer;
+    let next = turn.store;
+    let used = reply::free_line(out, at, Form::Abandon(client), answer);
+    Answered { store: next, used }
+}
+
+fn trim_said(
+    store: Store,
+    rows: &mut [u8],
+    commits: &mut [u8],
+    out: &mut [u8],
+    at: usize,
+) -> Answered
+    requires { ⌜ at + 90 ≤ length (now out) ⌝ }
+    ensures { λ r. ⌜ Spoken (said Form.Trim droppedText (worldOf store (now (rows .entry)) (now (commits .entry))) (called trim (worldOf store (now (rows .entry)) (now (commits .entry))))) (worldOf (r .store) (now (rows .exit)) (now (commits .exit))) (now (out .entry)) at (now (out .exit)) (r .used) ⌝ }
+{
+    let d = front(24 * store.rows as usize, rows.len());
+    let c = front(8 * store.rows as usize, commits.len());
+    let turn = store::trim(store, &mut rows[..d], &mut commits[..c]);
+    let answer = turn.answer;
+    let next = turn.store;
+    let used = reply::dropped_line(out, at, Form::Trim, answer);
+    Answered { store: next, used }
+}
+
+fn free_said(store: Store, rows: &[u8], commits: &[u8], out: &mut [u8], at: usize) -> Answered
+    requires { ⌜ at + 90 ≤ length (now out) ⌝ }
+    ensures { λ r. ⌜ Spoken (said Form.Free freeText (worldOf store (now (rows .entry)) (now (commits .entry))) (called free (worldOf store (now (rows .entry)) (now (commits .entry))))) (worldOf (r .store) (now (rows .entry)) (now (commits .entry))) (now (out .entry)) at (now (out .exit)) (r .used) ⌝ }
+{
+    let d = front(24 * store.rows as usize, rows.len());
+    let c = front(8 * store.rows as usize, commits.len());
+    let turn = store::free(store, &rows[..d], &commits[..c]);
+    let answer = turn.answer;
+    let next = turn.store;
+    let used = reply::free_line(out, at, Form::Free, answer);
+    Answered { store: next, used }
+}
+
+// ---- the answer to a line
+
+pub fn answer_line(
+    store: Store,
+    line: &[u8],
+    rows: &mut [u8],
+    commits: &mut [u8],
+    out: &mut [u8],
+    at: usize,
+) -> Answered
+    requires { ⌜ at + 90 ≤ length (now out) ⌝ }
+    ensures { λ r. ⌜ Spoken (answerTo (now (line .entry)) (worldOf store (now (rows .entry)) (now (commits .entry)))) (worldOf (r .store) (now (rows .exit)) (now (commits .exit))) (now (out .entry)) at (now (out .exit)) (r .used) ⌝ }
+{
+    let form = text::form_of(line);
+    match form {
+        Form::SetUp {
+            rows: count,
+            first,
+            limit,
+        } => set_up_said(store, count, first, limit, rows, commits, out, at),
+        Form::Begin(client) => begin_said(store, client, rows, commits, out, at),
+        Form::Read(client, cell) => read_said(store, client, cell, rows, commits, out, at),
+        Form::Write {
+            client,
+            cell,
+            value,
+        } => write_said(store, client, cell, line, value, rows, commits, out, at),
+        Form::Advance(client) => advance_said(store, client, rows, commits, out, at),
+        Form::Abandon(client) => abandon_said(store, client, rows, commits, out, at),
+        Form::Trim => trim_said(store, rows, commits, out, at),
+        Form::Free => free_said(store, rows, commits, out, at),
+        Form::Other => Answered {
+            store,
+            used: reply::refused_line(out, at, Form::Other, 13),
+        },
+    }
+}
+
+// ---- the whole lines of a chunk of input
+
+// The place of the first newline at or after a place, or the input's length.
+fn newline(s: &[u8], from: usize) -> usize
+    requires { ⌜ from ≤ length (now s) ⌝ }
+    ensures { λ r. ⌜ r ≡ newlineFrom from (drop from (now (s .entry))) ⌝ }
+    ensures { λ r. ⌜ (from ≤ r) × (r ≤ length (now (s .entry))) ⌝ }
+{
+    let mut i = from;
+    while i < s.len() {
+        if s[i] == 10 {
+            return i;
+        }
+        i += 1;
+    }
+    i
+}
+
+pub struct Chunked {
+    pub store: Store,
+    pub from: usize,
+    pub used: usize,
+}
+
+// Answers the whole lines of buf from a place on, while out has room for an answer.
+pub fn chunk(
+    store: Store,
+    buf: &[u8],
+    start: usize,
+    rows: &mut [u8],
+    commits: &mut [u8],
+    out: &mut [u8],
+    at: usize,
+) -> Chunked
+    requires { ⌜ start ≤ length (now buf) ⌝ }
+    requires { ⌜ at ≤ length (now out) ⌝ }
+    ensures { λ r. ⌜ Fed (now (buf .entry)) start (worldOf store (now (rows .entry)) (now (commits .entry))) (now (out .entry)) at (r .from) (worldOf (r .store) (now (rows .exit)) (now (commits .exit))) (now (out .exit)) (r .used) ⌝ }
+{
+    let mut s = store;
+    let mut from = start;
+    let mut used = at;
+    while from < buf.len() {
+        if out.len() < 90 {
+            return Chunked {
+                store: s,
+                from,
+                used,
+            };
+        }
+        if out.len() - 90 < used {
+            return Chunked {
+                store: s,
+                from,
+                used,
+            };
+        }
+        let end = newline(buf, from);
+        if buf.len() <= end {
+            return Chunked {
+                store: s,
+                from,
+                used,
+            };
+        }
+        let done = answer_line(s, &buf[from..end], rows, commits, out, used);
+        s = done.store;
+        used = done.used;
+        from = end + 1;
+    }
+    Chunked {
+        store: s,
+        from,
+        used,
+    }
+}
+
+// Moves what stands between two places to the front, 81 bytes at most: a line that is too long stays too long.
+pub fn keep(buf: &mut [u8], from: usize, end: usize) -> usize
+    requires { ⌜ (from ≤ end) × (end ≤ length (now buf)) ⌝ }
+    ensures { λ r. ⌜ take r (now (buf .exit)) ≡ take 81 (take (end - from) (drop from (now (buf .entry)))) ⌝ }
+    ensures { λ r. ⌜ r ≤ 81 ⌝ }
+{
+    let mut i = 0;
+    let mut o = from;
+    while o < end {
+        if 81 <= i {
+            return i;
+        }
+        buf[i] = buf[o];
+        i += 1;
+        o += 1;
+    }
+    i
+}

@@ -1,0 +1,18 @@
+//! `soak LINES SEEDS`: every profile of the generator, that many seeds of that many lines each.
+
+use model::gen::PROFILES;
+use runs::generated;
+
+fn main() {
+    let words: Vec<String> = std::env::args().skip(1).collect();
+    let number = |at: usize, otherwise: u64| words.get(at).map_or(otherwise, |w| w.parse().expect("a number"));
+    let (lines, seeds) = (number(0, 200_000), number(1, 5));
+    let mut total = 0;
+    for seed in 1..=seeds {
+        for profile in PROFILES {
+            generated(seed, lines as usize, profile);
+            total += lines;
+        }
+        println!("seed {seed}: {total} lines, no difference");
+    }
+}
