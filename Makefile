@@ -1,19 +1,37 @@
-# Two commands on a machine that has the toolchain:
+# Two commands on a machine that has the toolchain, cargo and make:
 #   make run    proves and builds everything, then runs the step program on an example
 #   make test   runs all tests; its last line is 'N passed, 0 failed'
+# Further:
+#   make soak LINES=.. SEEDS=..   longer generated runs against the model
+#   make bench                    instructions and times against hand-written Rust (needs valgrind)
+#   make peers                    the same work on SQLite and LMDB, where their packages are installed
 EXAMPLE ?= examples/first.txt
-MODEL = tests/model/Cargo.toml
+LINES ?= 400000
+SEEDS ?= 8
+CARGO = cargo --quiet
 
-.PHONY: run test rust
+.PHONY: run test build rust soak bench peers
 
-run:
-	rt check
-	@if [ -x target/bin/step ]; then target/bin/step <$(EXAMPLE); \
-	else echo "All crates are proved. The step program is not there yet."; fi
+run: build
+	target/bin/step <$(EXAMPLE)
 
 test: rust
 	rt fmt --check
 	rt ci
 
-rust:
-	cargo test --quiet --offline --manifest-path $(MODEL)
+build:
+	rt check
+
+rust: build
+	$(CARGO) test --offline --manifest-path tests/model/Cargo.toml
+	$(CARGO) test --offline --manifest-path tests/runs/Cargo.toml
+
+soak: build
+	$(CARGO) run --release --offline --manifest-path tests/runs/Cargo.toml --bin soak -- $(LINES) $(SEEDS)
+
+bench: build
+	tests/bench.sh
+
+peers:
+	@if pkg-config --exists sqlite3 && [ -e /usr/include/lmdb.h ]; then bench/peers.sh; \
+	else echo "SQLite's or LMDB's development package is not installed: nothing to compare with."; fi

@@ -171,6 +171,9 @@ pub fn look(
 ) -> Set
     ensures { λ r. ⌜ r ≡ strike (λ j. struck queue own (getD (now (stage .entry)) j 0) (getD (now (number .entry)) j 0)) list clients ⌝ }
 {
+    if list == 0 {
+        return 0;
+    }
     let mut out = list;
     for i in 0..CLIENTS {
         if strikes(queue, own, stage[i], number[i]) {

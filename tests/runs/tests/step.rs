@@ -24,6 +24,22 @@ fn house_cases_and_scripts_of_the_model() {
     assert!(seen >= 12);
 }
 
+/// The examples of the README print what stands beside them (made by the reference model).
+#[test]
+fn examples() {
+    let folder = concat!(env!("CARGO_MANIFEST_DIR"), "/../../examples");
+    let mut seen = 0;
+    for entry in fs::read_dir(folder).unwrap() {
+        let path = entry.unwrap().path();
+        if path.extension().is_some_and(|e| e == "txt") {
+            let wanted = fs::read(path.with_extension("out")).unwrap();
+            assert_eq!(output(&fs::read(&path).unwrap()), wanted, "{}", path.display());
+            seen += 1;
+        }
+    }
+    assert!(seen >= 4);
+}
+
 #[test]
 fn every_profile_against_model_and_plain_table() {
     for profile in PROFILES {

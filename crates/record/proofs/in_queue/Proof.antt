@@ -6,8 +6,6 @@ use Rattle.spec.specs.Steps.{queued}
 use Rattle.record.proofs.in_queue.Statement.{statement}
 use Rattle.record.proofs.in_queue.Tie as tie
 
--- Assumes nothing.
-
 returns : tie.Need-returns
 unfolding queued
 returns c = rw (lt-ltb _ _ (c .if1 .taken))

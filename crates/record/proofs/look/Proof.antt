@@ -1,4 +1,4 @@
--- `record::look`: the list so far is struck of the clients passed.
+-- `record::look`: an empty list stays empty; else the list so far is struck of the clients passed.
 -- Assumes nothing.
 use mathlib.Core.Path.{_≡_, refl, sym, ap, _∙_}
 use mathlib.Core.Logic.{⊎-elim}
@@ -9,16 +9,18 @@ use borrow.Author.Needs.{needs}
 use lib.ListN.{getD}
 use Rattle.sets.specs.Set.{clients, remove, strike}
 use Rattle.spec.specs.Steps.{struck}
+use Rattle.record.proofs.Loops.{strike-none}
 use Rattle.record.proofs.look.Statement.{statement}
 use Rattle.record.proofs.look.Tie as tie
-
--- Assumes nothing.
 
 abbrev Inv-loop : tie.InvT-loop
 Inv-loop queue own stage number list out₀ i₀ out i = (i ≤ clients) × (out ≡ strike (λ j. struck queue own (getD stage j 0) (getD number j 0)) list i)
 
 abbrev μ-loop : tie.MeasureT-loop
 μ-loop queue own stage number list out₀ i₀ out i = clients - i
+
+returns : tie.Need-returns Inv-loop μ-loop
+returns c = let e : c .before .args .list ≡ 0 = omega arith in rw e (sym (strike-none _ clients))
 
 loop-holds : tie.Need-loop-holds Inv-loop μ-loop
 unfolding strike
@@ -60,11 +62,11 @@ loop-again c =
           (⊎-elim
           (λ w. rw (w .0 .taken) (w .2 ∙ w .1 .ensures ∙ ap (λ (x : ℕ). remove x (loop .i)) (loop .inv .1)))
           (λ w. rw (w .0 .left) (w .1 ∙ loop .inv .1))
-          (c .if1 .came)),
+          (c .if2 .came)),
     )
 
-returns : tie.Need-returns Inv-loop μ-loop
-returns c = let e : c .before .loop .i ≡ clients = omega arith in rw e at (c .before .loop .inv .1)
+returns-2 : tie.Need-returns-2 Inv-loop μ-loop
+returns-2 c = let e : c .before .loop .i ≡ clients = omega arith in rw e at (c .before .loop .inv .1)
 
 pub look-spec : {M : Type 1} → statement M
 look-spec =
@@ -72,6 +74,7 @@ look-spec =
     (tie.spec
     Inv-loop
     μ-loop
+    returns
     loop-holds
     mul-strikes
     element-copy-out-strikes
@@ -83,4 +86,4 @@ look-spec =
     add-i
     loop-less
     loop-again
-    returns)
+    returns-2)

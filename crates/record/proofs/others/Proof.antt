@@ -14,8 +14,6 @@ use Rattle.spec.specs.Steps.{queued}
 use Rattle.record.proofs.others.Statement.{statement}
 use Rattle.record.proofs.others.Tie as tie
 
--- Assumes nothing.
-
 abbrev Inv-loop : tie.InvT-loop
 Inv-loop queue stage client out₀ i₀ out i = (i ≤ clients) × (out ≡ collect (λ j. not (eqb j client) && queued queue (getD stage j 0)) i)
 

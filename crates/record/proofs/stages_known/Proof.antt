@@ -13,8 +13,6 @@ use Rattle.spec.specs.Bytes.{known}
 use Rattle.record.proofs.stages_known.Statement.{statement}
 use Rattle.record.proofs.stages_known.Tie as tie
 
--- Assumes nothing.
-
 abbrev Inv-loop : tie.InvT-loop
 Inv-loop stage ok₀ i₀ ok i = (i ≤ clients) × (ok ≡ known stage i)
 

@@ -7,8 +7,6 @@ use Rattle.spec.specs.Steps.{struck}
 use Rattle.record.proofs.strikes.Statement.{statement}
 use Rattle.record.proofs.strikes.Tie as tie
 
--- Assumes nothing.
-
 in-queue-requires : tie.Need-in-queue-requires
 in-queue-requires c κs = search needs
 

@@ -15,10 +15,6 @@ use Rattle.store.proofs.Outcomes.{abandon-removed, removed-figure, remo
 use Rattle.store.proofs.abandon.Statement.{statement}
 use Rattle.store.proofs.abandon.Tie as tie
 
--- Assumes nothing.
-
--- Assumes nothing.
-
 fit-requires : tie.Need-fit-requires
 fit-requires c κs = search needs
 

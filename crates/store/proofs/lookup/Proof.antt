@@ -7,8 +7,6 @@ use Rattle.store.specs.Reads.{valueFrom}
 use Rattle.store.proofs.lookup.Statement.{statement}
 use Rattle.store.proofs.lookup.Tie as tie
 
--- Assumes nothing.
-
 read-requires : tie.Need-read-requires
 read-requires c κs = search needs
 

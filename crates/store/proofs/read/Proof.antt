@@ -14,10 +14,6 @@ use Rattle.store.proofs.Outcomes.{read-found}
 use Rattle.store.proofs.read.Statement.{statement}
 use Rattle.store.proofs.read.Tie as tie
 
--- Assumes nothing.
-
--- Assumes nothing.
-
 fit-requires : tie.Need-fit-requires
 fit-requires c κs = search needs
 

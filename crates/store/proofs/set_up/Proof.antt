@@ -10,8 +10,6 @@ use Rattle.spec.proofs.Ends.{accepted}
 use Rattle.store.proofs.set_up.Statement.{statement}
 use Rattle.store.proofs.set_up.Tie as tie
 
--- Assumes nothing.
-
 acceptable-requires : tie.Need-acceptable-requires
 acceptable-requires c κs = search needs
 

@@ -17,8 +17,6 @@ use Rattle.search.specs.declared.Found.{Found}
 use Rattle.store.proofs.write.Statement.{statement}
 use Rattle.store.proofs.write.Tie as tie
 
--- Assumes nothing.
-
 fit-requires : tie.Need-fit-requires
 fit-requires c κs = search needs
 
