@@ -2,10 +2,11 @@
 -- Assumes nothing.
 use Prim.Native.Nat.{ℕ, _+_, _*_, _≤_, _<_}
 use mathlib.Core.Path.{_≡_, refl, sym, _∙_}
+use mathlib.Core.Bool.{not}
 use mathlib.Core.List.{List, [], _∷_, _++_}
 use borrow.Author.Tests.{le-leb, lt-leb}
 use lib.ListN.{length, getD, length-append}
-use Rattle.rows.specs.Rows.{Row, rowsIn, laid, commitRow}
+use Rattle.rows.specs.Rows.{Row, rowsIn, laid, commitRow, filter, hasTag}
 use Rattle.rows.proofs.Rows.{length-rows}
 use Rattle.rows.proofs.Laid.{laid-same}
 use Rattle.search.specs.declared.Number.{Number}
@@ -14,10 +15,10 @@ use Rattle.spec.specs.declared.Store.{Store}
 use Rattle.spec.specs.declared.Progress.{Progress}
 use Rattle.spec.specs.declared.Progress.the-variants.{Stage}
 use Rattle.spec.specs.Answers.{Answer, Answered, unfit}
-use Rattle.spec.specs.Image.{countersOf, setStage}
+use Rattle.spec.specs.Image.{countersOf, setStage, closed}
 use Rattle.spec.specs.Calls.{refuse, removed}
 use Rattle.spec.specs.Steps.{goOn, addCommit, checked, check}
-use Rattle.spec.specs.Bytes.{clientsIn, recordOf, seen, storeOf, leaves, laidOut}
+use Rattle.spec.specs.Bytes.{countersIn, clientsIn, recordOf, seen, storeOf, leaves, laidOut}
 use Rattle.spec.proofs.Ends.{ends}
 use Rattle.steps.specs.Removed.{Removed}
 
@@ -44,6 +45,12 @@ module _ (s : Store) (d c : List ℕ) (k : ℕ) where
       → checked f k (seen s d c) ≡ check k (seen s d c)
   unfolding check seen
   check-found f e = rw e
+
+  -- the record of the image without the client's rows, by how many rows are left
+  pub removed-store : (n : ℕ) → n ≡ length (filter (λ r. not (hasTag (getD (s .number) k 0) r)) (rowsIn 24 (s .used) d))
+      → recordOf (s .rows) (s .limit) (countersIn s) (closed k (clientsIn s)) n (s .entries) ≡ storeOf (removed k (seen s d c))
+  unfolding removed seen storeOf
+  removed-store n e = rw (e, length-rows 8 (s .entries) c)
 
   -- the client's rows are removed and it is closed, whatever is answered
   pub removed-ends : {A : Type 0} (a : Answer A) (s′ : Store) (d′ : List ℕ) → Removed k s d s′ d′

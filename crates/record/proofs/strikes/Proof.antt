@@ -1,6 +1,7 @@
 -- `record::strikes`: three tests, in the definition's order.
 -- Assumes nothing.
 use Prim.Native.Nat.{_-_}
+use native.Mathlib.Omega.{arith}
 use borrow.Author.Needs.{needs}
 use borrow.Author.Tests.{lt-ltb, le-ltb, not-true, not-false}
 use Rattle.spec.specs.Steps.{struck}
@@ -17,14 +18,16 @@ returns c = rw (← c .before .in-queue .ensures, not-true (c .before .in-queue 
 returns-2 : tie.Need-returns-2
 unfolding struck
 returns-2 c =
+    let a = c .before .before .before .before .args in
     let q = c .before .before .before .in-queue in
-    rw (← q .ensures, not-false (q .result) (c .before .before .if1 .left), lt-ltb _ _ (c .if2 .taken))
+    rw (← q .ensures, not-false (q .result) (c .before .before .if1 .left), lt-ltb (a .stage) (a .queue .noted) (omega arith))
 
 returns-3 : tie.Need-returns-3
 unfolding struck
 returns-3 c =
+    let a = c .before .before .before .before .args in
     let q = c .before .before .before .in-queue in
-    rw (← q .ensures, not-false (q .result) (c .before .before .if1 .left), le-ltb _ _ (c .if2 .left))
+    rw (← q .ensures, not-false (q .result) (c .before .before .if1 .left), le-ltb (a .stage) (a .queue .noted) (omega arith))
 
 pub strikes-spec : {M : Type 1} → statement M
 strikes-spec = tie.close (tie.spec in-queue-requires returns returns-2 returns-3)

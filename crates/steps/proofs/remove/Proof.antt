@@ -8,6 +8,7 @@ use Rattle.rows.proofs.Rows.{length-rows, filter-fewer}
 use Rattle.removal.specs.Kept.{otherTag}
 use Rattle.spec.specs.Calls.{removed}
 use Rattle.spec.specs.Bytes.{seen, storeOf}
+use Rattle.steps.proofs.Outcomes.{removed-store}
 use Rattle.steps.proofs.remove.Statement.{statement}
 use Rattle.steps.proofs.remove.Tie as tie
 
@@ -42,7 +43,7 @@ returns c =
     let a = c .before .before .before .before .before .before .before .args in
     let r = c .before .before .before .remove-rows in
     record {
-      store = λ e. rw (c .close .ensures, r .ensures .rows, length-rows 8 (a .t1 .entries) e);
+      store = λ e. rw (c .close .ensures) (removed-store (a .t1) (a .rows .now) e (a .client) _ (r .ensures .rows));
       bytes = λ e. r .ensures .bytes;
     }
 
