@@ -10,21 +10,16 @@ LINES ?= 400000
 SEEDS ?= 8
 CARGO = cargo --quiet
 
-.PHONY: run test build rust soak bench peers
+.PHONY: run test build soak bench peers
 
 run: build
 	target/bin/step <$(EXAMPLE)
 
-test: rust
-	rt fmt --check
-	rt ci
+test:
+	tests/all.sh
 
 build:
 	rt check
-
-rust: build
-	$(CARGO) test --offline --manifest-path tests/model/Cargo.toml
-	$(CARGO) test --offline --manifest-path tests/runs/Cargo.toml
 
 soak: build
 	$(CARGO) run --release --offline --manifest-path tests/runs/Cargo.toml --bin soak -- $(LINES) $(SEEDS)

@@ -34,7 +34,7 @@ module _ (s : List ℕ) (i : ℕ) where
 
 -- ---- the lines, one clause each
 
-either : (x : Bool) → (x ≡ true) ⊎ (x ≡ false)
+pub either : (x : Bool) → (x ≡ true) ⊎ (x ≡ false)
 either true = inl refl
 either false = inr refl
 
@@ -55,28 +55,28 @@ newline-nil : (i : ℕ) → newlineFrom i [] ≡ i
 unfolding newlineFrom
 newline-nil i = refl
 
-lines-nil : linesOf [] ≡ []
+pub lines-nil : linesOf [] ≡ []
 unfolding linesOf
 lines-nil = refl
 
-rest-nil : restOf [] ≡ []
+pub rest-nil : restOf [] ≡ []
 unfolding restOf
 rest-nil = refl
 
 module _ (b : ℕ) (s : List ℕ) where
-  lines-here : eqb b 10 ≡ true → linesOf (b ∷ s) ≡ [] ∷ linesOf s
+  pub lines-here : eqb b 10 ≡ true → linesOf (b ∷ s) ≡ [] ∷ linesOf s
   unfolding linesOf
   lines-here e = rw e
 
-  lines-past : eqb b 10 ≡ false → linesOf (b ∷ s) ≡ push b (linesOf s)
+  pub lines-past : eqb b 10 ≡ false → linesOf (b ∷ s) ≡ push b (linesOf s)
   unfolding linesOf
   lines-past e = rw e
 
-  rest-here : eqb b 10 ≡ true → restOf (b ∷ s) ≡ restOf s
+  pub rest-here : eqb b 10 ≡ true → restOf (b ∷ s) ≡ restOf s
   unfolding restOf
   rest-here e = rw e
 
-  rest-past : eqb b 10 ≡ false → restOf (b ∷ s) ≡ unlessLines (linesOf s) b (restOf s)
+  pub rest-past : eqb b 10 ≡ false → restOf (b ∷ s) ≡ unlessLines (linesOf s) b (restOf s)
   unfolding restOf
   rest-past e = rw e
 
@@ -103,31 +103,13 @@ lines-at s from e h m l =
     let z : from + suc (e - from) ≡ e + 1 = omega arith in
     lines-first (drop from s) from e (sym h) k ∙ rw (drop-drop, z)
 
--- ---- a chunk behind a chunk: the lines of the first, then those of what it leaves with the second behind it. So it does not matter how an
--- input is cut.
-
-push-append : (b : ℕ) (ls ks : List (List ℕ)) (r t : List ℕ) → eqb b 10 ≡ false → ks ≡ linesOf (r ++ t)
-    → push b (ls ++ ks) ≡ push b ls ++ linesOf (unlessLines ls b r ++ t)
-push-append b [] ks r t q e = rw (lines-past b (r ++ t) q, e)
-push-append b (l ∷ ls) ks r t q e = rw e
-
-pub lines-append : (s t : List ℕ) → linesOf (s ++ t) ≡ linesOf s ++ linesOf (restOf s ++ t)
-lines-append [] t = rw (lines-nil, rest-nil)
-lines-append (b ∷ s) t =
-    ⊎-elim
-    (λ q. rw (lines-here b (s ++ t) q, lines-here b s q, rest-here b s q, lines-append s t))
-    (λ q.
-    rw (lines-past b (s ++ t) q, lines-past b s q, rest-past b s q, lines-append s t)
-    (push-append b (linesOf s) (linesOf (restOf s ++ t)) (restOf s) t q refl))
-    (either (eqb b 10))
-
 -- ---- one turn of a loop over lines
 
-answers-cons : (w : World) (l : List ℕ) (ls : List (List ℕ)) → answers w (l ∷ ls) ≡ answerTo l w .text ++ answers (answerTo l w .world) ls
+pub answers-cons : (w : World) (l : List ℕ) (ls : List (List ℕ)) → answers w (l ∷ ls) ≡ answerTo l w .text ++ answers (answerTo l w .world) ls
 unfolding answers
 answers-cons w l ls = refl
 
-after-cons : (w : World) (l : List ℕ) (ls : List (List ℕ)) → worldAfter w (l ∷ ls) ≡ worldAfter (answerTo l w .world) ls
+pub after-cons : (w : World) (l : List ℕ) (ls : List (List ℕ)) → worldAfter w (l ∷ ls) ≡ worldAfter (answerTo l w .world) ls
 unfolding worldAfter
 after-cons w l ls = refl
 

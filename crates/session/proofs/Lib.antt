@@ -1,4 +1,5 @@
 pub mod Chunks
 pub mod Fronts
+pub mod Input
 pub mod Moves
 pub mod Readings
