@@ -1,4 +1,4 @@
-// The record by value: fitness, closing a client, the two queues.
+// The record by value: fitness, closing a client, the two queues, set-up's tests, Trim's low.
 ghost use mathlib.Core.Path.{_≡_};
 ghost use mathlib.Core.Bool.{not, _&&_};
 ghost use mathlib.Core.List.{List};
@@ -7,13 +7,19 @@ ghost use lib.ListN.{getD};
 ghost use Prim.Native.Nat.{ℕ, _<_};
 ghost use Rattle.sets.specs.Set.{clients, collect, strike};
 ghost use Rattle.sets.specs.Choice.{if_then_else_};
-ghost use Rattle.spec.specs.Image.{cleared, closed, empty};
+ghost use Rattle.search.specs.Numbers.{smallest};
+ghost use Rattle.spec.specs.Image.{cleared, closed, empty, Image};
+ghost use Rattle.spec.specs.Calls.{readers, low};
 ghost use Rattle.spec.specs.Steps.{queued, struck};
-ghost use Rattle.spec.specs.Bytes.{countersIn, clientsIn, recordOf, seen, storeOf, known, fits};
+ghost use Rattle.spec.specs.Bytes.{countersIn, clientsIn, recordOf, seen, storeOf, known, fits, limitOf, accepts};
+use search::Number;
 use sets::CLIENTS;
 use sets::LIMIT;
 use sets::Set;
+use spec::FigureAnswer;
+use spec::FigureTurn;
 use spec::Queue;
+use spec::Refusal;
 use spec::Store;
 
 // Whether all stages are known ones, 0 to 13.
@@ -53,7 +59,8 @@ pub fn fit(store: Store, d: usize, c: usize) -> bool
     if rows < store.entries {
         return false;
     }
-    stages_known(&store.stage)
+    let stages = store.stage;
+    stages_known(&stages)
 }
 
 // A record with nothing open and no row in use.
@@ -97,18 +104,30 @@ pub fn close(store: Store, client: u32) -> Store
     ensures { λ r. ⌜ r ≡ recordOf (store .rows) (store .limit) (countersIn store) (closed client (clientsIn store)) (store .used) (store .entries) ⌝ }
 {
     let k = client as usize;
+    let mut stages = store.stage;
+    stages[k] = 0;
+    let mut numbers = store.number;
+    numbers[k] = 0;
+    let mut snapshots = store.snapshot;
+    snapshots[k] = 0;
+    let mut requests = store.request;
+    requests[k] = 0;
+    let mut commits = store.commit;
+    commits[k] = 0;
     let blockers = store.blockers;
+    let mut blockers_left = clear_all(blockers, client);
+    blockers_left[k] = 0;
     let ahead = store.ahead;
+    let mut ahead_left = clear_all(ahead, client);
+    ahead_left[k] = 0;
     let mut next = store;
-    next.blockers = clear_all(blockers, client);
-    next.ahead = clear_all(ahead, client);
-    next.stage[k] = 0;
-    next.number[k] = 0;
-    next.snapshot[k] = 0;
-    next.request[k] = 0;
-    next.commit[k] = 0;
-    next.blockers[k] = 0;
-    next.ahead[k] = 0;
+    next.stage = stages;
+    next.number = numbers;
+    next.snapshot = snapshots;
+    next.request = requests;
+    next.commit = commits;
+    next.blockers = blockers_left;
+    next.ahead = ahead_left;
     next
 }
 
@@ -181,4 +200,84 @@ pub fn look(
         }
     }
     out
+}
+
+// ---- set-up
+
+// Whether set-up takes buffers of these lengths, the first number and the cell limit.
+pub fn acceptable(d: usize, c: usize, first: u32, limit: u32) -> bool
+    ensures { λ r. ⌜ r ≡ accepts d c first limit ⌝ }
+{
+    let n = d / 24;
+    if d != 24 * n {
+        return false;
+    }
+    if n < 1 {
+        return false;
+    }
+    if 1024 < n {
+        return false;
+    }
+    if c != 8 * n {
+        return false;
+    }
+    if first == 0 {
+        return false;
+    }
+    limit <= 64
+}
+
+// The cell limit: 0 stands for 16.
+pub fn given_limit(limit: u32) -> u32
+    ensures { λ r. ⌜ r ≡ limitOf limit ⌝ }
+{
+    if limit == 0 { 16 } else { limit }
+}
+
+// ---- Trim
+
+// The snapshot of a client with this number, if it is open.
+fn reader(number: u32, snapshot: u32) -> Number
+    ensures { λ r. ⌜ r ≡ (if not (eqb number 0) then Number.Some snapshot else Number.None) ⌝ }
+{
+    if number == 0 {
+        return Number::None;
+    }
+    Number::Some(snapshot)
+}
+
+// The smallest snapshot of open transactions, in every image with these columns.
+fn smallest_open(numbers: &[u32; CLIENTS], snapshots: &[u32; CLIENTS]) -> Number
+    ensures { λ r. ⌜ ((x : Image) → x .clients .number ≡ now (numbers .entry) → x .clients .snapshot ≡ now (snapshots .entry) → r ≡ smallest (readers x clients)) ⌝ }
+{
+    let mut best = Number::None;
+    for i in 0..CLIENTS {
+        best = search::lesser_of(reader(numbers[i], snapshots[i]), best);
+    }
+    best
+}
+
+// The same of a record, or the last commit number if none is open.
+pub fn lowest(store: Store) -> u32
+    ensures { λ r. ⌜ ((d c : List ℕ) → r ≡ low (seen store d c)) ⌝ }
+{
+    let numbers = store.number;
+    let snapshots = store.snapshot;
+    let best = smallest_open(&numbers, &snapshots);
+    match best {
+        Number::Some(n) => n,
+        Number::None => store.last,
+    }
+}
+
+// ---- a refusal
+
+// A call that answers a figure, refused.
+pub fn no_figure(store: Store, refusal: Refusal) -> FigureTurn
+    ensures { λ r. ⌜ r ≡ record { store = store; answer = FigureAnswer.Refused refusal } ⌝ }
+{
+    FigureTurn {
+        store,
+        answer: FigureAnswer::Refused(refusal),
+    }
 }

@@ -1,4 +1,1 @@
-pub mod Folds
 pub mod Moving
-pub mod Places
-pub mod Newest

@@ -18,12 +18,10 @@ use lib.Seq.{sets-eq, drop-cons, take-at, drop-at, take-add, length-take-le, dro
 use Rattle.sets.specs.Choice.{if_then_else_}
 use Rattle.rows.specs.Rows.{Row, part, spliced, rowAt, rowsIn, rowsFrom, laid, filter, tagOf, hasTag}
 use Rattle.rows.proofs.Bytes.{spliced-next, take-spliced, drop-spliced, length-spliced, drop-later}
-use Rattle.rows.proofs.Rows.{rows-start, rows-step, rows-end, row-inside, row-length, length-rows, rows-wide, filter-wide}
-use Rattle.rows.proofs.Laid.{laid-fewer, laid-same, rows-laid}
-use Rattle.search.specs.Look.{commitOf}
-use Rattle.removal.proofs.Folds.{to-start, filter-all}
-use Rattle.removal.specs.Trim.{overtaken, stays, inUse, trimmedRows, trimmedCommits}
-use Rattle.removal.specs.Kept.{keptFrom, otherTag, Flags, Left, Trimmed}
+use Rattle.rows.proofs.Rows.{rows-start, rows-step, rows-end, row-inside, row-length, length-rows}
+use Rattle.rows.proofs.Laid.{laid-fewer, laid-same}
+use Rattle.search.proofs.Folds.{to-start}
+use Rattle.removal.specs.Kept.{keptFrom, otherTag, Flags, Left}
 
 -- ---- a word, and a row of words
 
@@ -223,6 +221,13 @@ kept-where p flags w n s h =
     step true i e l rest = kept-one flags w n i s l (flag-stays p flags w n s i h l e) ∙ rw (rows-step w n i s l, e, rest)
     step false i e l rest = kept-none flags w n i s l (h .each i l ∙ rw e) ∙ rw (rows-step w n i s l, e, rest)
 
+-- where all rows pass all stay
+pub filter-all : (p : Row → Bool) (w n : ℕ) (s : List ℕ) → ((k : ℕ) → k < n → p (rowAt w k s) ≡ true) → filter p (rowsIn w n s) ≡ rowsIn w n s
+unfolding filter
+filter-all p w n s h =
+    rw (rows-start w n s)
+    (to-start (λ i. filter p (rowsFrom w n i s) ≡ rowsFrom w n i s) n (rw (rows-end w n n s (omega arith))) (λ i l rest. rw (rows-step w n i s l, h i l, rest)))
+
 -- where no flag is 0 all rows stay
 pub kept-all : (flags : List ℕ) (w n : ℕ) (s : List ℕ) → ((k : ℕ) → k < n → getD flags k 0 ≡ 0 → ⊥) → keptFrom flags 0 (rowsIn w n s) ≡ rowsIn w n s
 unfolding keptFrom
@@ -249,30 +254,3 @@ pub stored-more : (f : ℕ → ℕ) (l : List ℕ) (i v : ℕ) → i < length l 
     → (k : ℕ) → k < i + 1 → getD (set l i v) k 0 ≡ f k
 stored-more f l i v h below e =
     below-more _ i (λ k g. getD-set-other l i k v 0 (λ z. omega arith) ∙ below k g) (getD-set-same l i v 0 h ∙ e)
-
--- ---- a trim: two removals, the second by what the first left
-
-pub trimmed : (low n m : ℕ) (s c flags marks s′ c′ : List ℕ) (n′ m′ : ℕ)
-    → 24 * n ≤ length s
-    → Flags (stays low (rowsIn 24 n s) (rowsIn 8 m c)) 24 n s flags
-    → Left 24 n (keptFrom flags 0 (rowsIn 24 n s)) s s′ n′
-    → Flags (inUse (rowsIn 24 n′ s′)) 8 m c marks
-    → Left 8 m (keptFrom marks 0 (rowsIn 8 m c)) c c′ m′
-    → Trimmed low n m s c s′ c′ n′ m′
-unfolding trimmedRows trimmedCommits
-trimmed low n m s c flags marks s′ c′ n′ m′ l f first g second =
-    let p : Row → Bool = stays low (rowsIn 24 n s) (rowsIn 8 m c) in
-    let left : List Row = filter p (rowsIn 24 n s) in
-    let one : Left 24 n left s s′ n′ = rw (kept-where p flags 24 n s f) at first in
-    let rows : rowsIn 24 n′ s′ ≡ left = rw (one .rows, one .bytes) (rows-laid 24 n left s (filter-wide 24 p (rowsIn 24 n s) (rows-wide 24 n s l))) in
-    let two : Left 8 m (filter (inUse (rowsIn 24 n′ s′)) (rowsIn 8 m c)) c c′ m′ = rw (kept-where (inUse (rowsIn 24 n′ s′)) marks 8 m c g) at second in
-    record { data-rows = one; commit-rows = rw rows at two }
-
--- no row is committed
-pub untrimmed : (low n : ℕ) (s c : List ℕ) → Trimmed low n 0 s c s c n 0
-unfolding trimmedRows trimmedCommits filter stays overtaken commitOf rowsIn
-untrimmed low n s c =
-    record {
-      data-rows = left-all 24 n s _ (filter-all (stays low (rowsIn 24 n s) []) 24 n s (λ k h. refl));
-      commit-rows = left-all 8 0 c [] refl;
-    }

@@ -7,8 +7,7 @@ use mathlib.Core.List.{List, [], _∷_}
 use lib.ListN.{length, getD}
 use lib.Dec.{eqb}
 use Rattle.sets.specs.Choice.{if_then_else_}
-use Rattle.rows.specs.Rows.{Row, rowAt, rowsIn, laid, filter, hasTag}
-use Rattle.removal.specs.Trim.{trimmedRows, trimmedCommits}
+use Rattle.rows.specs.Rows.{Row, rowAt, laid, hasTag}
 
 -- of rows numbered from i on, those whose flag is not 0
 unfoldable pub keptFrom : List ℕ → ℕ → List Row → List Row
@@ -28,8 +27,3 @@ pub record Flags (p : Row → Bool) (w n : ℕ) (s flags : List ℕ) : Type 0 wh
 pub record Left (w n : ℕ) (rs : List Row) (s s′ : List ℕ) (n′ : ℕ) : Type 0 where
   pub rows : n′ ≡ length rs
   pub bytes : s′ ≡ laid w n rs s
-
--- a trim of n data rows in s and m committed rows in c leaves s′ with n′ rows and c′ with m′
-pub record Trimmed (low n m : ℕ) (s c s′ c′ : List ℕ) (n′ m′ : ℕ) : Type 0 where
-  pub data-rows : Left 24 n (trimmedRows low (rowsIn 24 n s) (rowsIn 8 m c)) s s′ n′
-  pub commit-rows : Left 8 m (trimmedCommits (trimmedRows low (rowsIn 24 n s) (rowsIn 8 m c)) (rowsIn 8 m c)) c c′ m′

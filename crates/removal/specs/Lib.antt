@@ -1,4 +1,1 @@
-pub mod Trim
 pub mod Kept
-pub mod Places
-pub mod Newest

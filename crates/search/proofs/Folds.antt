@@ -1,23 +1,35 @@
 -- Folds over the rows from row i on: what a row that counts adds, that a row that does not count may be left out, and that past the last row there is nothing.
+-- What holds of the rows from the last on, and of those from i on where it holds of those from i + 1 on, holds of all (`to-start`).
 -- Assumes nothing.
-use Prim.Native.Nat.{ℕ, suc, _+_, _-_, _≤_, _<_}
+use Prim.Native.Nat.{ℕ, zero, suc, _+_, _-_, _≤_, _<_}
 use mathlib.Core.Path.{_≡_, refl, ap, _∙_}
 use mathlib.Core.Bool.{Bool, true, false, _||_}
 use mathlib.Core.List.{List, [], _∷_, _++_}
+use native.Mathlib.Numerals.{add-one}
 use native.Mathlib.Omega.{arith}
 use lib.Dec.{eqb, ltb}
 use borrow.Author.Tests.{eq-eqb, ne-eqb, lt-ltb, le-ltb, ltb-true, ltb-false}
 use Rattle.sets.specs.Choice.{if_then_else_}
-use Rattle.rows.specs.Rows.{Row, tagOf, cellOf, hasTag, rowAt, rowsIn, rowsFrom}
-use Rattle.rows.proofs.Rows.{rows-step, rows-end, rows-last}
+use Rattle.rows.specs.Rows.{Row, tagOf, cellOf, hasTag, commitNumber, commitTag, rowAt, rowsIn, rowsFrom}
+use Rattle.rows.proofs.Rows.{rows-start, rows-step, rows-end, rows-last}
 use Rattle.search.specs.declared.Number.{Number}
 use Rattle.search.specs.declared.Number.the-variants.{Some, None}
 use Rattle.search.specs.declared.Found.the-variants.{At, Missing}
 use Rattle.search.specs.declared.Seen.{Seen}
 use Rattle.search.specs.declared.Seen.the-variants.{Version, Nothing}
 use Rattle.search.specs.Numbers.{lesser}
-use Rattle.search.specs.Look.{isOwn, find, newer, seenAt, newest}
+use Rattle.search.specs.Look.{commitOf, isOwn, find, newer, seenAt, newest}
 use Rattle.search.specs.Share.{any, count, wrote, cellsOf}
+
+-- ---- choices
+
+pub if-same : {A : Type 0} (b : Bool) (x : A) → (if b then x else x) ≡ x
+if-same true x = refl
+if-same false x = refl
+
+pub if-itself : (b : Bool) → (if b then true else false) ≡ b
+if-itself true = refl
+if-itself false = refl
 
 -- ---- tests of a row
 
@@ -35,11 +47,7 @@ own-tag tag cell r e = rw (eq-eqb _ _ e)
 
 pub own-other-cell : (tag cell : ℕ) (r : Row) → (cellOf r ≡ cell → ⊥) → isOwn tag cell r ≡ false
 unfolding isOwn
-own-other-cell tag cell r n = rw (ne-eqb _ _ n) (go (eqb (tagOf r) tag))
-  where
-    go : (t : Bool) → (if t then false else false) ≡ false
-    go true = refl
-    go false = refl
+own-other-cell tag cell r n = rw (ne-eqb _ _ n) (if-same (eqb (tagOf r) tag) false)
 
 pub tag-yes : (tag : ℕ) (r : Row) → tagOf r ≡ tag → hasTag tag r ≡ true
 unfolding hasTag
@@ -51,14 +59,14 @@ tag-no tag r n = ne-eqb _ _ n
 
 -- ---- folds by a test
 
-module _ (p : Row → Bool) (w n i : ℕ) (s : List ℕ) where
-  pub any-hit : i < n → p (rowAt w i s) ≡ true → any p (rowsFrom w n i s) ≡ true
-  unfolding any
-  any-hit h e = rw (rows-step w n i s h, e)
+pub to-start : (P : ℕ → Type 0) (n : ℕ) → P n → ((i : ℕ) → i < n → P (i + 1) → P i) → P 0
+to-start P zero last step = last
+to-start P (suc n) last step = to-start P n (step n (omega arith) (rw (add-one n) last)) (λ i h. step i (omega arith))
 
-  pub any-miss : i < n → p (rowAt w i s) ≡ false → any p (rowsFrom w n i s) ≡ any p (rowsFrom w n (i + 1) s)
+module _ (p : Row → Bool) (w n i : ℕ) (s : List ℕ) where
+  pub any-step : i < n → any p (rowsFrom w n i s) ≡ (if p (rowAt w i s) then true else any p (rowsFrom w n (i + 1) s))
   unfolding any
-  any-miss h e = rw (rows-step w n i s h, e)
+  any-step h = rw (rows-step w n i s h)
 
   pub any-end : n ≤ i → any p (rowsFrom w n i s) ≡ false
   unfolding any
@@ -87,6 +95,44 @@ module _ (p : Row → Bool) (w n i : ℕ) (s : List ℕ) where
   pub count-end : n ≤ i → count p (rowsFrom w n i s) ≡ 0
   unfolding count
   count-end h = rw (rows-end w n i s h)
+
+module _ (p : Row → Bool) (w n : ℕ) (s : List ℕ) where
+  -- a row passes
+  pub any-at : (k : ℕ) → k < n → p (rowAt w k s) ≡ true → any p (rowsIn w n s) ≡ true
+  any-at k h e =
+      rw (rows-start w n s)
+      (to-start (λ i. any p (rowsFrom w n i s) ≡ true) k (any-step p w n k s h ∙ rw e) (λ i l rest. any-step p w n i s (omega arith) ∙ rw rest (if-same (p (rowAt w i s)) true)))
+
+  -- no row passes
+  pub any-none : ((k : ℕ) → k < n → p (rowAt w k s) ≡ false) → any p (rowsIn w n s) ≡ false
+  any-none h =
+      rw (rows-start w n s)
+      (to-start (λ i. any p (rowsFrom w n i s) ≡ false) n (any-end p w n n s (omega arith)) (λ i l rest. any-step p w n i s l ∙ rw (h i l, rest)))
+
+-- ---- the first committed row with a tag
+
+module _ (tag n : ℕ) (s : List ℕ) where
+  commit-miss : (i : ℕ) → i < n → (commitTag (rowAt 8 i s) ≡ tag → ⊥) → commitOf tag (rowsFrom 8 n i s) ≡ commitOf tag (rowsFrom 8 n (i + 1) s)
+  unfolding commitOf
+  commit-miss i h ne = rw (rows-step 8 n i s h, ne-eqb _ _ ne)
+
+  commit-hit : (i : ℕ) → i < n → commitTag (rowAt 8 i s) ≡ tag → commitOf tag (rowsFrom 8 n i s) ≡ Some (commitNumber (rowAt 8 i s))
+  unfolding commitOf
+  commit-hit i h e = rw (rows-step 8 n i s h, eq-eqb _ _ e)
+
+  commit-end : commitOf tag (rowsFrom 8 n n s) ≡ None
+  unfolding commitOf
+  commit-end = rw (rows-end 8 n n s (omega arith))
+
+  pub commit-none : ((k : ℕ) → k < n → commitTag (rowAt 8 k s) ≡ tag → ⊥) → commitOf tag (rowsIn 8 n s) ≡ None
+  commit-none h =
+      rw (rows-start 8 n s) (to-start (λ i. commitOf tag (rowsFrom 8 n i s) ≡ None) n commit-end (λ i l rest. commit-miss i l (h i l) ∙ rest))
+
+  pub commit-first : (k : ℕ) → k < n → commitTag (rowAt 8 k s) ≡ tag → ((j : ℕ) → j < k → commitTag (rowAt 8 j s) ≡ tag → ⊥)
+      → commitOf tag (rowsIn 8 n s) ≡ Some (commitNumber (rowAt 8 k s))
+  commit-first k h e before =
+      rw (rows-start 8 n s)
+      (to-start (λ i. commitOf tag (rowsFrom 8 n i s) ≡ Some (commitNumber (rowAt 8 k s))) k (commit-hit k h e) (λ i l rest. commit-miss i (omega arith) (before i l) ∙ rest))
 
 -- ---- the newest row
 
@@ -194,7 +240,7 @@ module _ (tag cell w n i : ℕ) (s : List ℕ) where
 
   pub wrote-miss : i < n → (tagOf (rowAt w i s) ≡ tag → ⊥) → wrote (rowsFrom w n i s) tag cell ≡ wrote (rowsFrom w n (i + 1) s) tag cell
   unfolding wrote
-  wrote-miss h e = any-miss (isOwn tag cell) w n i s h (own-other-tag tag cell (rowAt w i s) e)
+  wrote-miss h e = any-step (isOwn tag cell) w n i s h ∙ rw (own-other-tag tag cell (rowAt w i s) e)
 
   pub wrote-end : n ≤ i → wrote (rowsFrom w n i s) tag cell ≡ false
   unfolding wrote
@@ -211,13 +257,9 @@ any-append p (x ∷ xs) ys = go (p x) (any-append p xs ys)
     go true h = refl
     go false h = h
 
-alone : (t : Bool) → (if t then true else false) ≡ t
-alone true = refl
-alone false = refl
-
 pub any-last : (p : Row → Bool) (w i : ℕ) (s : List ℕ) → 0 < i → any p (rowsIn w i s) ≡ (any p (rowsIn w (i - 1) s) || p (rowAt w (i - 1) s))
 unfolding any
 any-last p w i s h =
     let e : i ≡ suc (i - 1) = omega arith in
     ap (λ (n : ℕ). any p (rowsIn w n s)) e
-    ∙ rw (rows-last w (i - 1) s, any-append p (rowsIn w (i - 1) s) (rowAt w (i - 1) s ∷ []), alone (p (rowAt w (i - 1) s)))
+    ∙ rw (rows-last w (i - 1) s, any-append p (rowsIn w (i - 1) s) (rowAt w (i - 1) s ∷ []), if-itself (p (rowAt w (i - 1) s)))

@@ -14,7 +14,7 @@ use Rattle.sets.specs.Laws.{member-insert, member-above, member-collect, collec
 use Rattle.rows.specs.Rows.{Row, tagOf, cellOf, hasTag, rowAt, rowsIn, rowsFrom}
 use Rattle.rows.proofs.Rows.{rows-start, rows-step}
 use Rattle.search.specs.Share.{any, wrote, shares}
-use Rattle.search.proofs.Folds.{any-miss, any-end}
+use Rattle.search.proofs.Folds.{if-same, any-step, any-end}
 
 eqb-turn : (a b : ℕ) → eqb a b ≡ eqb b a
 eqb-turn a b = go (eqb b a) refl
@@ -82,11 +82,8 @@ module _ (tag queued n : ℕ) (d numbers : List ℕ) where
   module _ (found i : ℕ) (all : Shared found i) where
     pub share-miss : i < n → wrote (rowsIn 24 n d) tag (cellOf (rowAt 24 i d)) ≡ false → Shared found (i + 1)
     unfolding Shared
-    share-miss h e j = all j ∙ rw (any-miss (meets (rowsIn 24 n d) tag (getD numbers j 0)) 24 n i d h (rw e (go (hasTag (getD numbers j 0) (rowAt 24 i d)))))
-      where
-        go : (t : Bool) → (if t then false else false) ≡ false
-        go true = refl
-        go false = refl
+    share-miss h e j =
+        all j ∙ rw (any-step (meets (rowsIn 24 n d) tag (getD numbers j 0)) 24 n i d h, e, if-same (hasTag (getD numbers j 0) (rowAt 24 i d)) false)
 
     pub share-hit : i < n → wrote (rowsIn 24 n d) tag (cellOf (rowAt 24 i d)) ≡ true → (out : ℕ)
         → ((j : ℕ) → member out j ≡ (member found j || (member queued j && eqb (getD numbers j 0) (tagOf (rowAt 24 i d))))) → Shared out (i + 1)

@@ -7,7 +7,7 @@ use Rattle.rows.specs.Rows.{spliced, number, bytesOf, dataRow, tagOf, cellOf, v
 use Rattle.search.specs.Numbers.{lesser, smallest, above, upTo}
 use Rattle.search.specs.Look.{commitOf, isOwn, find, versionOf, newer, seenAt, newest, ownOr, lookFor, valueIn}
 use Rattle.search.specs.Share.{any, count, wrote, cellsOf, shares, clash, conflict}
-use Rattle.removal.specs.Trim.{between, later, overtaken, stays, trimmedRows, inUse, trimmedCommits}
+use Rattle.trimming.specs.Trim.{between, later, overtaken, stays, trimmedRows, inUse, trimmedCommits}
 use Rattle.spec.specs.Image.{cleared, closed, empty}
 use Rattle.spec.specs.Calls.{free, begun, begin, read, replaced, added, write, removed, abandon, readers, low, trimmedTo, trim}
 use Rattle.spec.specs.Steps.{queued, struck, others, goOn, enter, takeRequest, listRequests, looked, lookRequests, check, takeCommit, listCommits, lookCommits, addCommit, leaveCommits, leaveRequests, advance}

@@ -1,3 +1,4 @@
+pub mod Accord
 pub mod House
 pub mod Ends
 pub mod Spread

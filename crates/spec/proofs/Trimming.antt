@@ -17,7 +17,7 @@ use Rattle.search.specs.declared.Number.{Number}
 use Rattle.search.specs.declared.Number.the-variants.{Some, None}
 use Rattle.search.specs.Numbers.{lesser, smallest}
 use Rattle.search.specs.Look.{commitOf}
-use Rattle.removal.specs.Trim.{between, later, overtaken, stays, trimmedRows, inUse, trimmedCommits}
+use Rattle.trimming.specs.Trim.{between, later, overtaken, stays, trimmedRows, inUse, trimmedCommits}
 use Rattle.spec.specs.Answers.{Answered}
 use Rattle.spec.specs.Image.{Image, withRows, numberOf, snapshotOf}
 use Rattle.spec.specs.Calls.{readers, orElse, low, trimmedTo, trim}

@@ -23,7 +23,7 @@ use Rattle.search.specs.declared.Found.{Found}
 use Rattle.search.specs.declared.Found.the-variants.{At, Missing}
 use Rattle.search.specs.Look.{isOwn, find}
 use Rattle.search.specs.Share.{any, cellsOf, shares, conflict}
-use Rattle.removal.specs.Trim.{stays, trimmedRows, inUse, trimmedCommits}
+use Rattle.trimming.specs.Trim.{stays, trimmedRows, inUse, trimmedCommits}
 use Rattle.spec.specs.declared.Progress.{Progress}
 use Rattle.spec.specs.Answers.{Answer}
 use Rattle.spec.specs.Image.{Clients, Image, setStage, setRequest, setCommit, setBlockers, setAhead, cleared, unlisted, opened, closed, zeros, empty, numberOf, snapshotOf, requestOf, stageOf, commitNumberOf, isOpen}

@@ -19,7 +19,7 @@ use Rattle.search.specs.declared.Seen.the-variants.{Version, Nothing}
 use Rattle.search.specs.Numbers.{smallest}
 use Rattle.search.specs.Look.{isOwn, find, lookFor}
 use Rattle.search.specs.Share.{cellsOf}
-use Rattle.removal.specs.Trim.{trimmedRows, trimmedCommits}
+use Rattle.trimming.specs.Trim.{trimmedRows, trimmedCommits}
 use Rattle.spec.specs.declared.Begun.{Begun}
 use Rattle.spec.specs.declared.Reading.{Reading}
 use Rattle.spec.specs.declared.Reading.the-variants.{Value, Unwritten}

@@ -34,7 +34,9 @@ fn go_on(store: Store, client: u32, stage: u32) -> AdvanceTurn
 {
     let k = client as usize;
     let mut next = store;
-    next.stage[k] = stage;
+    let mut stages = store.stage;
+    stages[k] = stage;
+    next.stage = stages;
     AdvanceTurn {
         store: next,
         answer: AdvanceAnswer::Answered(Progress::Stage(stage)),
@@ -48,7 +50,8 @@ fn enter(store: Store, rows: &[u8], client: u32) -> AdvanceTurn
     ensures { λ r. ⌜ ((c : List ℕ) → leaves (r .store) (now (rows .entry)) c (advanceOf (r .answer)) ≡ laidOut store (now (rows .entry)) c (enter client (seen store (now (rows .entry)) c))) ⌝ }
 {
     let k = client as usize;
-    let number = store.number[k];
+    let numbers = store.number;
+    let number = numbers[k];
     let used = store.used as usize;
     if !search::has_rows(rows, used, number) {
         return refuse(store, Refusal::NothingWritten);
@@ -67,8 +70,10 @@ fn take_request(store: Store, client: u32) -> AdvanceTurn
     let k = client as usize;
     let n = store.requested + 1;
     let mut next = store;
+    let mut requests = store.request;
+    requests[k] = n;
     next.requested = n;
-    next.request[k] = n;
+    next.request = requests;
     go_on(next, client, 2)
 }
 
@@ -84,12 +89,15 @@ fn list_requests(store: Store, rows: &[u8], client: u32) -> AdvanceTurn
         last: 13,
     };
     let k = client as usize;
-    let number = store.number[k];
+    let numbers = store.number;
+    let number = numbers[k];
     let used = store.used as usize;
-    let queued = record::others(queue, &store.stage, client);
-    let list = search::sharers(rows, used, number, &store.number, queued);
+    let stages = store.stage;
+    let queued = record::others(queue, &stages, client);
     let mut next = store;
-    next.blockers[k] = list;
+    let mut blockers = store.blockers;
+    blockers[k] = search::sharers(rows, used, number, &numbers, queued);
+    next.blockers = blockers;
     go_on(next, client, 4)
 }
 
@@ -118,13 +126,15 @@ fn look_requests(store: Store, client: u32) -> AdvanceTurn
         last: 13,
     };
     let k = client as usize;
-    let stage = store.stage;
-    let request = store.request;
-    let own = request[k];
-    let before = store.blockers[k];
-    let list = record::look(queue, own, &stage, &request, before);
+    let stages = store.stage;
+    let requests = store.request;
+    let own = requests[k];
     let mut next = store;
-    next.blockers[k] = list;
+    let mut blockers = store.blockers;
+    let before = blockers[k];
+    let list = record::look(queue, own, &stages, &requests, before);
+    blockers[k] = list;
+    next.blockers = blockers;
     looked(next, client, list, 5)
 }
 
@@ -136,7 +146,8 @@ pub fn remove(store: Store, rows: &mut [u8], client: u32) -> Store
     ensures { λ r. ⌜ Removed client store (now (rows .entry)) r (now (rows .exit)) ⌝ }
 {
     let k = client as usize;
-    let number = store.number[k];
+    let numbers = store.number;
+    let number = numbers[k];
     let used = store.used as usize;
     let left = removal::remove_rows(rows, used, number) as u32;
     let mut next = record::close(store, client);
@@ -151,8 +162,10 @@ fn check(store: Store, rows: &mut [u8], commits: &[u8], client: u32) -> AdvanceT
     ensures { λ r. ⌜ leaves (r .store) (now (rows .exit)) (now (commits .entry)) (advanceOf (r .answer)) ≡ laidOut store (now (rows .entry)) (now (commits .entry)) (check client (seen store (now (rows .entry)) (now (commits .entry)))) ⌝ }
 {
     let k = client as usize;
-    let number = store.number[k];
-    let snapshot = store.snapshot[k];
+    let numbers = store.number;
+    let number = numbers[k];
+    let snapshots = store.snapshot;
+    let snapshot = snapshots[k];
     let used = store.used as usize;
     let entries = store.entries as usize;
     let found = search::conflict(rows, used, commits, entries, number, snapshot);
@@ -176,8 +189,10 @@ fn take_commit(store: Store, client: u32) -> AdvanceTurn
     let k = client as usize;
     let n = store.taken + 1;
     let mut next = store;
+    let mut commits = store.commit;
+    commits[k] = n;
     next.taken = n;
-    next.commit[k] = n;
+    next.commit = commits;
     go_on(next, client, 8)
 }
 
@@ -192,9 +207,11 @@ fn list_commits(store: Store, client: u32) -> AdvanceTurn
         last: 12,
     };
     let k = client as usize;
-    let list = record::others(queue, &store.stage, client);
+    let stages = store.stage;
     let mut next = store;
-    next.ahead[k] = list;
+    let mut lists = store.ahead;
+    lists[k] = record::others(queue, &stages, client);
+    next.ahead = lists;
     go_on(next, client, 10)
 }
 
@@ -209,13 +226,15 @@ fn look_commits(store: Store, client: u32) -> AdvanceTurn
         last: 12,
     };
     let k = client as usize;
-    let stage = store.stage;
-    let commit = store.commit;
-    let own = commit[k];
-    let before = store.ahead[k];
-    let list = record::look(queue, own, &stage, &commit, before);
+    let stages = store.stage;
+    let commits = store.commit;
+    let own = commits[k];
     let mut next = store;
-    next.ahead[k] = list;
+    let mut lists = store.ahead;
+    let before = lists[k];
+    let list = record::look(queue, own, &stages, &commits, before);
+    lists[k] = list;
+    next.ahead = lists;
     looked(next, client, list, 11)
 }
 
@@ -230,14 +249,18 @@ fn add_commit(store: Store, commits: &mut [u8], client: u32) -> AdvanceTurn
         return refuse(store, Refusal::Unfit);
     }
     let k = client as usize;
-    let n = store.commit[k];
-    let tag = store.number[k];
+    let commit_numbers = store.commit;
+    let n = commit_numbers[k];
+    let numbers = store.number;
+    let tag = numbers[k];
     let entries = store.entries as usize;
     rows::append_commit(commits, entries, n, tag);
     let mut next = store;
+    let mut stages = store.stage;
+    stages[k] = 12;
     next.entries = store.entries + 1;
     next.last = n;
-    next.stage[k] = 12;
+    next.stage = stages;
     AdvanceTurn {
         store: next,
         answer: AdvanceAnswer::Answered(Progress::Stage(12)),
@@ -262,7 +285,8 @@ fn leave_requests(store: Store, client: u32) -> AdvanceTurn
     ensures { λ r. ⌜ ((d c : List ℕ) → leaves (r .store) d c (advanceOf (r .answer)) ≡ laidOut store d c (leaveRequests client (seen store d c))) ⌝ }
 {
     let k = client as usize;
-    let n = store.commit[k];
+    let commits = store.commit;
+    let n = commits[k];
     let next = record::close(store, client);
     AdvanceTurn {
         store: next,
@@ -277,7 +301,8 @@ pub fn step(store: Store, rows: &mut [u8], commits: &mut [u8], client: u32) -> A
     ensures { λ r. ⌜ leaves (r .store) (now (rows .exit)) (now (commits .exit)) (advanceOf (r .answer)) ≡ laidOut store (now (rows .entry)) (now (commits .entry)) (getD steps (getD (store .stage) client 0) noStep client (seen store (now (rows .entry)) (now (commits .entry)))) ⌝ }
 {
     let k = client as usize;
-    let stage = store.stage[k];
+    let stages = store.stage;
+    let stage = stages[k];
     match stage {
         0 => enter(store, rows, client),
         1 => take_request(store, client),

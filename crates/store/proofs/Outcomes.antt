@@ -1,30 +1,28 @@
 -- What the calls leave, by the facts that their code has found: one law for each way in which a call ends.
 -- Assumes nothing.
-use Prim.Native.Nat.{ℕ, _+_, _*_, _-_, _≤_, _<_}
-use mathlib.Core.Path.{_≡_, refl, sym, ap, _∙_}
-use mathlib.Core.Bool.{Bool, true, false, not}
-use mathlib.Core.List.{List, [], _∷_, _++_}
+use Prim.Native.Nat.{ℕ, _-_, _≤_, _<_}
+use mathlib.Core.Path.{_≡_, refl, ap}
+use mathlib.Core.Bool.{Bool, not}
+use mathlib.Core.List.{List}
 use native.Mathlib.Omega.{arith}
-use borrow.Author.Tests.{le-leb, lt-leb, eq-eqb, ne-eqb}
-use lib.Dec.{eqb, leb}
-use lib.ListN.{length, getD, set, length-append, length-set}
+use borrow.Author.Tests.{lt-leb, eq-eqb, ne-eqb}
+use lib.ListN.{length, getD}
 use Rattle.sets.specs.Set.{clients}
-use Rattle.rows.specs.Rows.{Row, rowsIn, laid, dataRow, withValue, filter, hasTag}
+use Rattle.rows.specs.Rows.{Row, rowsIn, hasTag}
 use Rattle.rows.proofs.Rows.{length-rows, filter-fewer}
-use Rattle.rows.proofs.Laid.{laid-same}
 use Rattle.search.specs.declared.Found.{Found}
 use Rattle.search.specs.declared.Found.the-variants.{At, Missing}
 use Rattle.search.specs.declared.Own.{Own}
 use Rattle.search.specs.declared.Own.the-variants.{Row as OwnRow, Rows as OwnRows}
 use Rattle.search.specs.declared.Seen.{Seen}
 use Rattle.search.specs.Look.{isOwn, find, lookFor}
-use Rattle.search.specs.Share.{count, rowOrCount, cellsOf}
+use Rattle.search.specs.Share.{rowOrCount}
 use Rattle.search.proofs.Below.{find-below}
-use Rattle.removal.specs.Trim.{stays, inUse, trimmedRows, trimmedCommits}
-use Rattle.removal.specs.Kept.{Left, Trimmed}
+use Rattle.trimming.specs.Trim.{stays, inUse, trimmedRows, trimmedCommits}
+use Rattle.trimming.specs.Trimmed.{Trimmed}
 use Rattle.spec.specs.declared.Store.{Store}
-use Rattle.spec.specs.Answers.{Answer, Answered, cellLimit, noFreeRow}
-use Rattle.spec.specs.Calls.{Outcome, gives, refuse, reading, read, added, replaced, stored, write, removed, abandon, low, trimmedTo, trim}
+use Rattle.spec.specs.Answers.{Answered}
+use Rattle.spec.specs.Calls.{gives, reading, read, stored, write, removed, abandon, low, trimmedTo, trim}
 use Rattle.spec.specs.Bytes.{countersIn, clientsIn, recordOf, seen, storeOf, leaves, laidOut}
 use Rattle.spec.proofs.Ends.{ends}
 use Rattle.steps.specs.Removed.{Removed}
@@ -61,35 +59,6 @@ module _ (s : Store) (d c : List ℕ) where
     unfolding write seen
     write-stored v f l e =
         rw (lt-leb clients k h, lt-leb 1024 x g, eq-eqb (length v) 16 l, ne-eqb (getD (s .number) k 0) 0 n, eq-eqb (getD (s .stage) k 0) 0 t, e)
-
-  module _ (k x : ℕ) (v : List ℕ) where
-    pub added-limit : leb (s .limit) (cellsOf (getD (s .number) k 0) (rowsIn 24 (s .used) d)) ≡ true → added k x v (seen s d c) ≡ refuse cellLimit (seen s d c)
-    unfolding added seen
-    added-limit h = rw h
-
-    module _ (h : leb (s .limit) (cellsOf (getD (s .number) k 0) (rowsIn 24 (s .used) d)) ≡ false) where
-      pub added-full : s .rows ≤ s .used → added k x v (seen s d c) ≡ refuse noFreeRow (seen s d c)
-      unfolding added seen
-      added-full g = rw (h, length-rows 24 (s .used) d, le-leb (s .rows) (s .used) g)
-
-      pub added-row : (d′ : List ℕ) → s .used < s .rows
-          → d′ ≡ laid 24 (s .used) (rowsIn 24 (s .used) d ++ (dataRow (getD (s .number) k 0) x v ∷ [])) d
-          → leaves (recordOf (s .rows) (s .limit) (countersIn s) (clientsIn s) (s .used + 1) (s .entries)) d′ c (Answered (s .rows - (s .used + 1)))
-          ≡ laidOut s d c (added k x v (seen s d c))
-      unfolding added seen storeOf
-      added-row d′ g e =
-          let r : Row = dataRow (getD (s .number) k 0) x v in
-          let n : length (rowsIn 24 (s .used) d ++ (r ∷ [])) ≡ s .used + 1 = length-append (rowsIn 24 (s .used) d) (r ∷ []) ∙ rw (length-rows 24 (s .used) d) in
-          rw (h, length-rows 24 (s .used) d, lt-leb (s .rows) (s .used) g)
-          (ends s d c _ _ _ _ _ (rw (n, length-rows 8 (s .entries) c)) e (sym (laid-same 8 (s .entries) c)) (rw n))
-
-    pub replaced-row : (j : ℕ) (d′ : List ℕ)
-        → d′ ≡ laid 24 (s .used) (set (rowsIn 24 (s .used) d) j (withValue v (getD (rowsIn 24 (s .used) d) j []))) d
-        → leaves s d′ c (Answered (s .rows - s .used)) ≡ laidOut s d c (replaced j v (seen s d c))
-    unfolding replaced seen storeOf
-    replaced-row j d′ e =
-        let n : length (set (rowsIn 24 (s .used) d) j (withValue v (getD (rowsIn 24 (s .used) d) j []))) ≡ s .used = simp (length-set, length-rows) in
-        ends s d c _ _ _ _ _ (rw (n, length-rows 8 (s .entries) c)) e (sym (laid-same 8 (s .entries) c)) (rw n)
 
   -- ---- Abandon
 

@@ -50,8 +50,7 @@ loop-again c =
     let k = c .before .before .before .args .client in
     let n : length l ≡ clients = search needs in (
       search needs,
-      rw (add-one i, ← mapTo-step (λ (w : ℕ). remove w k) 0 i l (omega arith))
-          (cc),
+      rw (add-one i, ← mapTo-step (λ (w : ℕ). remove w k) 0 i l (omega arith), c .without .ensures, c .before .before .loop .inv .1),
     )
 
 returns : tie.Need-returns Inv-loop μ-loop

@@ -1,80 +1,80 @@
--- `record::close`: both arrays of lists are cleared, then the client's fields.
+-- `record::close`: the client's fields are zero, and both arrays of lists are cleared.
 -- Assumes nothing.
 use borrow.Author.Needs.{needs}
 use Rattle.spec.specs.Image.{closed}
 use Rattle.record.proofs.close.Statement.{statement}
 use Rattle.record.proofs.close.Tie as tie
 
+mul-stages : tie.Need-mul-stages
+mul-stages c = search needs
+
+array-write-stages : tie.Need-array-write-stages
+array-write-stages c = search needs
+
+mul-numbers : tie.Need-mul-numbers
+mul-numbers c = search needs
+
+array-write-numbers : tie.Need-array-write-numbers
+array-write-numbers c = search needs
+
+mul-snapshots : tie.Need-mul-snapshots
+mul-snapshots c = search needs
+
+array-write-snapshots : tie.Need-array-write-snapshots
+array-write-snapshots c = search needs
+
+mul-requests : tie.Need-mul-requests
+mul-requests c = search needs
+
+array-write-requests : tie.Need-array-write-requests
+array-write-requests c = search needs
+
+mul-commits : tie.Need-mul-commits
+mul-commits c = search needs
+
+array-write-commits : tie.Need-array-write-commits
+array-write-commits c = search needs
+
 clear-all-requires : tie.Need-clear-all-requires
 clear-all-requires c κs = search needs
+
+mul-blockers-left : tie.Need-mul-blockers-left
+mul-blockers-left c = search needs
+
+array-write-blockers-left : tie.Need-array-write-blockers-left
+array-write-blockers-left c = search needs
 
 clear-all-requires-2 : tie.Need-clear-all-requires-2
 clear-all-requires-2 c κs = search needs
 
-mul-next : tie.Need-mul-next
-mul-next c = search needs
+mul-ahead-left : tie.Need-mul-ahead-left
+mul-ahead-left c = search needs
 
-element-write-next : tie.Need-element-write-next
-element-write-next c = search needs
-
-mul-next-2 : tie.Need-mul-next-2
-mul-next-2 c = search needs
-
-element-write-next-2 : tie.Need-element-write-next-2
-element-write-next-2 c = search needs
-
-mul-next-3 : tie.Need-mul-next-3
-mul-next-3 c = search needs
-
-element-write-next-3 : tie.Need-element-write-next-3
-element-write-next-3 c = search needs
-
-mul-next-4 : tie.Need-mul-next-4
-mul-next-4 c = search needs
-
-element-write-next-4 : tie.Need-element-write-next-4
-element-write-next-4 c = search needs
-
-mul-next-5 : tie.Need-mul-next-5
-mul-next-5 c = search needs
-
-element-write-next-5 : tie.Need-element-write-next-5
-element-write-next-5 c = search needs
-
-mul-next-6 : tie.Need-mul-next-6
-mul-next-6 c = search needs
-
-element-write-next-6 : tie.Need-element-write-next-6
-element-write-next-6 c = search needs
-
-mul-next-7 : tie.Need-mul-next-7
-mul-next-7 c = search needs
-
-element-write-next-7 : tie.Need-element-write-next-7
-element-write-next-7 c = search needs
+array-write-ahead-left : tie.Need-array-write-ahead-left
+array-write-ahead-left c = search needs
 
 returns : tie.Need-returns
 unfolding closed
-returns c = rw (c .clear-all2 .ensures, c .before .clear-all .ensures)
+returns c = rw (c .clear-all2 .ensures, c .before .before .clear-all .ensures)
 
 pub close-spec : {M : Type 1} → statement M
 close-spec =
     tie.close
     (tie.spec
+    mul-stages
+    array-write-stages
+    mul-numbers
+    array-write-numbers
+    mul-snapshots
+    array-write-snapshots
+    mul-requests
+    array-write-requests
+    mul-commits
+    array-write-commits
     clear-all-requires
+    mul-blockers-left
+    array-write-blockers-left
     clear-all-requires-2
-    mul-next
-    element-write-next
-    mul-next-2
-    element-write-next-2
-    mul-next-3
-    element-write-next-3
-    mul-next-4
-    element-write-next-4
-    mul-next-5
-    element-write-next-5
-    mul-next-6
-    element-write-next-6
-    mul-next-7
-    element-write-next-7
+    mul-ahead-left
+    array-write-ahead-left
     returns)

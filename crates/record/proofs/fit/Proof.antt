@@ -12,14 +12,14 @@ returns : tie.Need-returns
 unfolding fits
 returns c =
     let a = c .before .args in
-    let s = a .t1 in
+    let s = a .store in
     rw (lt-ltb (s .rows) 1 (omega arith))
 
 returns-2 : tie.Need-returns-2
 unfolding fits
 returns-2 c =
     let a = c .before .before .args in
-    let s = a .t1 in
+    let s = a .store in
     rw (le-ltb (s .rows) 1 (omega arith), lt-ltb 1024 (s .rows) (omega arith))
 
 cast-wide : tie.Need-cast-wide
@@ -32,7 +32,7 @@ returns-3 : tie.Need-returns-3
 unfolding fits
 returns-3 c =
     let a = c .before .before .before .args in
-    let s = a .t1 in
+    let s = a .store in
     rw (le-ltb (s .rows) 1 (omega arith), le-ltb 1024 (s .rows) (omega arith), ne-eqb (a .d) (24 * s .rows) (c .if3 .taken))
 
 mul-if4 : tie.Need-mul-if4
@@ -42,21 +42,21 @@ returns-4 : tie.Need-returns-4
 unfolding fits
 returns-4 c =
     let a = c .before .before .before .before .args in
-    let s = a .t1 in
+    let s = a .store in
     rw (le-ltb (s .rows) 1 (omega arith), le-ltb 1024 (s .rows) (omega arith), eq-eqb (a .d) (24 * s .rows) (omega arith), ne-eqb (a .c) (8 * s .rows) (c .if4 .taken))
 
 returns-5 : tie.Need-returns-5
 unfolding fits
 returns-5 c =
-    let a = c .before .before .before .before .before .args in
-    let s = a .t1 in
+    let a = c .before .before .before .before .before .before .args in
+    let s = a .store in
     rw (le-ltb (s .rows) 1 (omega arith), le-ltb 1024 (s .rows) (omega arith), eq-eqb (a .d) (24 * s .rows) (omega arith), eq-eqb (a .c) (8 * s .rows) (omega arith), lt-ltb (s .rows) (s .used) (omega arith))
 
 returns-6 : tie.Need-returns-6
 unfolding fits
 returns-6 c =
-    let a = c .before .before .before .before .before .before .args in
-    let s = a .t1 in
+    let a = c .before .before .before .before .before .before .before .before .args in
+    let s = a .store in
     rw (le-ltb (s .rows) 1 (omega arith), le-ltb 1024 (s .rows) (omega arith), eq-eqb (a .d) (24 * s .rows) (omega arith), eq-eqb (a .c) (8 * s .rows) (omega arith), le-ltb (s .rows) (s .used) (omega arith), lt-ltb (s .rows) (s .entries) (omega arith))
 
 stages-known-requires : tie.Need-stages-known-requires
@@ -65,8 +65,8 @@ stages-known-requires c κs = search needs
 returns-7 : tie.Need-returns-7
 unfolding fits
 returns-7 c =
-    let a = c .before .before .before .before .before .before .before .before .before .args in
-    let s = a .t1 in
+    let a = c .before .before .before .before .before .before .before .before .before .before .before .args in
+    let s = a .store in
     rw (le-ltb (s .rows) 1 (omega arith), le-ltb 1024 (s .rows) (omega arith), eq-eqb (a .d) (24 * s .rows) (omega arith), eq-eqb (a .c) (8 * s .rows) (omega arith), le-ltb (s .rows) (s .used) (omega arith), le-ltb (s .rows) (s .entries) (omega arith)) (c .stages-known .ensures)
 
 pub fit-spec : {M : Type 1} → statement M

@@ -2,8 +2,7 @@
 use borrow.Author.Needs.{needs}
 use native.Mathlib.Omega.{arith}
 use Rattle.removal.specs.Kept.{otherTag}
-use Rattle.removal.proofs.Folds.{filter-all}
-use Rattle.removal.proofs.Moving.{kept-where, left-all, flag-stays, other-yes}
+use Rattle.removal.proofs.Moving.{kept-where, filter-all, left-all, flag-stays, other-yes}
 use Rattle.removal.proofs.remove_rows.Statement.{statement}
 use Rattle.removal.proofs.remove_rows.Tie as tie
 

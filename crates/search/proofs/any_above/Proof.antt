@@ -8,7 +8,7 @@ use borrow.Author.Tests.{lt-ltb, le-ltb}
 use Rattle.rows.specs.Rows.{rowAt, rowsIn, rowsFrom, commitNumber}
 use Rattle.rows.proofs.Rows.{rows-start}
 use Rattle.search.specs.Share.{any}
-use Rattle.search.proofs.Folds.{any-hit, any-miss, any-end}
+use Rattle.search.proofs.Folds.{any-step, any-end}
 use Rattle.search.proofs.any_above.Statement.{statement}
 use Rattle.search.proofs.any_above.Tie as tie
 
@@ -26,13 +26,15 @@ returns : tie.Need-returns Inv-loop μ-loop
 returns c =
     let a = c .before .before .before .before .before .args in
     let loop = c .before .before .before .loop in
-    sym (loop .inv ∙ any-hit (λ r. ltb (a .s) (commitNumber r)) 8 (a .entries) (loop .i) (a .commits .now) (omega arith) (lt-ltb (a .s) (commitNumber (rowAt 8 (loop .i) (a .commits .now))) (omega (arith, c .before .commit-number-at .ensures))))
+    sym (loop .inv ∙ any-step (λ r. ltb (a .s) (commitNumber r)) 8 (a .entries) (loop .i) (a .commits .now) (omega arith)
+    ∙ rw (lt-ltb (a .s) (commitNumber (rowAt 8 (loop .i) (a .commits .now))) (omega (arith, c .before .commit-number-at .ensures))))
 
 loop-again : tie.Need-loop-again Inv-loop μ-loop
 loop-again c =
     let a = c .before .before .before .before .before .args in
     let loop = c .before .before .before .loop in
-    loop .inv ∙ any-miss (λ r. ltb (a .s) (commitNumber r)) 8 (a .entries) (loop .i) (a .commits .now) (omega arith) (le-ltb (a .s) (commitNumber (rowAt 8 (loop .i) (a .commits .now))) (omega (arith, c .before .commit-number-at .ensures)))
+    loop .inv ∙ any-step (λ r. ltb (a .s) (commitNumber r)) 8 (a .entries) (loop .i) (a .commits .now) (omega arith)
+    ∙ rw (le-ltb (a .s) (commitNumber (rowAt 8 (loop .i) (a .commits .now))) (omega (arith, c .before .commit-number-at .ensures)))
 
 returns-2 : tie.Need-returns-2 Inv-loop μ-loop
 returns-2 c =

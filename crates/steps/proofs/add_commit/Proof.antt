@@ -16,14 +16,14 @@ returns c = λ d. rw (c .refuse .ensures) (stays _ d _ _ _ (commit-full _ d _ _ 
 mul-n : tie.Need-mul-n
 mul-n c = search needs
 
-element-copy-out-n : tie.Need-element-copy-out-n
-element-copy-out-n c = search needs
+array-read-n : tie.Need-array-read-n
+array-read-n c = search needs
 
 mul-tag : tie.Need-mul-tag
 mul-tag c = search needs
 
-element-copy-out-tag : tie.Need-element-copy-out-tag
-element-copy-out-tag c = search needs
+array-read-tag : tie.Need-array-read-tag
+array-read-tag c = search needs
 
 cast-entries : tie.Need-cast-entries
 cast-entries c = search needs
@@ -31,20 +31,22 @@ cast-entries c = search needs
 append-commit-requires : tie.Need-append-commit-requires
 append-commit-requires c κs = search needs
 
+mul-stages : tie.Need-mul-stages
+mul-stages c = search needs
+
+array-write-stages : tie.Need-array-write-stages
+array-write-stages c = search needs
+
 add-next : tie.Need-add-next
 add-next c = search needs
-
-mul-next : tie.Need-mul-next
-mul-next c = search needs
-
-element-write-next : tie.Need-element-write-next
-element-write-next c = search needs
 
 same-length : tie.Need-same-length
 same-length c = search needs
 
 returns-2 : tie.Need-returns-2
-returns-2 c = λ d. commit-added _ d _ _ _ (omega arith) (c .before .before .append-commit .ensures)
+returns-2 c =
+    let a = c .before .before .before .before .before .before .before .before .before .before .before .before .args in
+    λ d. commit-added (a .store) d (a .commits .now) (a .client) _ (omega arith) (c .before .before .before .before .append-commit .ensures)
 
 pub add-commit-spec : {M : Type 1} → statement M
 add-commit-spec =
@@ -53,13 +55,13 @@ add-commit-spec =
     refuse-requires
     returns
     mul-n
-    element-copy-out-n
+    array-read-n
     mul-tag
-    element-copy-out-tag
+    array-read-tag
     cast-entries
     append-commit-requires
+    mul-stages
+    array-write-stages
     add-next
-    mul-next
-    element-write-next
     same-length
     returns-2)

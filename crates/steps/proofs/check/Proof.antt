@@ -12,14 +12,14 @@ use Rattle.steps.proofs.check.Tie as tie
 mul-number : tie.Need-mul-number
 mul-number c = search needs
 
-element-copy-out-number : tie.Need-element-copy-out-number
-element-copy-out-number c = search needs
+array-read-number : tie.Need-array-read-number
+array-read-number c = search needs
 
 mul-snapshot : tie.Need-mul-snapshot
 mul-snapshot c = search needs
 
-element-copy-out-snapshot : tie.Need-element-copy-out-snapshot
-element-copy-out-snapshot c = search needs
+array-read-snapshot : tie.Need-array-read-snapshot
+array-read-snapshot c = search needs
 
 cast-used : tie.Need-cast-used
 cast-used c = search needs
@@ -28,13 +28,13 @@ cast-entries : tie.Need-cast-entries
 cast-entries c = search needs
 
 conflict-requires : tie.Need-conflict-requires
-conflict-requires c κs = let f = fit-of _ _ _ (c .before .before .before .before .before .pre .1) in (omega arith, omega arith)
+conflict-requires c κs = let f = fit-of _ _ _ (c .before .before .before .before .before .before .before .pre .1) in (omega arith, omega arith)
 
 enum-known-found : tie.Need-enum-known-found
 enum-known-found c = search needs
 
 remove-requires : tie.Need-remove-requires
-remove-requires c κs = let f = fit-of _ _ _ (c .before .before .before .before .before .before .before .before .before .before .pre .1) in (omega arith, (omega arith, omega arith))
+remove-requires c κs = let f = fit-of _ _ _ (c .before .before .before .before .before .before .before .before .before .before .before .before .pre .1) in (omega arith, (omega arith, omega arith))
 
 enum-told : tie.Need-enum-told
 enum-told c = search needs
@@ -59,9 +59,9 @@ check-spec =
     tie.close
     (tie.spec
     mul-number
-    element-copy-out-number
+    array-read-number
     mul-snapshot
-    element-copy-out-snapshot
+    array-read-snapshot
     cast-used
     cast-entries
     conflict-requires

@@ -11,8 +11,8 @@ use Rattle.steps.proofs.enter.Tie as tie
 mul-number : tie.Need-mul-number
 mul-number c = search needs
 
-element-copy-out-number : tie.Need-element-copy-out-number
-element-copy-out-number c = search needs
+array-read-number : tie.Need-array-read-number
+array-read-number c = search needs
 
 cast-used : tie.Need-cast-used
 cast-used c = search needs
@@ -43,7 +43,7 @@ enter-spec =
     tie.close
     (tie.spec
     mul-number
-    element-copy-out-number
+    array-read-number
     cast-used
     has-rows-requires
     refuse-requires

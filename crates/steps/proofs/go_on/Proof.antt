@@ -7,15 +7,15 @@ use Rattle.spec.proofs.Ends.{ends-same}
 use Rattle.steps.proofs.go_on.Statement.{statement}
 use Rattle.steps.proofs.go_on.Tie as tie
 
-mul-next : tie.Need-mul-next
-mul-next c = search needs
+mul-stages : tie.Need-mul-stages
+mul-stages c = search needs
 
-element-write-next : tie.Need-element-write-next
-element-write-next c = search needs
+array-write-stages : tie.Need-array-write-stages
+array-write-stages c = search needs
 
 returns : tie.Need-returns
 unfolding goOn seen
 returns c = λ d e. ends-same _ d e _ _ _
 
 pub go-on-spec : {M : Type 1} → statement M
-go-on-spec = tie.close (tie.spec mul-next element-write-next returns)
+go-on-spec = tie.close (tie.spec mul-stages array-write-stages returns)

@@ -10,8 +10,8 @@ use Rattle.steps.proofs.leave_requests.Tie as tie
 mul-n : tie.Need-mul-n
 mul-n c = search needs
 
-element-copy-out-n : tie.Need-element-copy-out-n
-element-copy-out-n c = search needs
+array-read-n : tie.Need-array-read-n
+array-read-n c = search needs
 
 close-requires : tie.Need-close-requires
 close-requires c κs = search needs
@@ -21,4 +21,4 @@ unfolding leaveRequests seen
 returns c = λ d e. rw (c .close .ensures) (ends-same _ d e _ _ _)
 
 pub leave-requests-spec : {M : Type 1} → statement M
-leave-requests-spec = tie.close (tie.spec mul-n element-copy-out-n close-requires returns)
+leave-requests-spec = tie.close (tie.spec mul-n array-read-n close-requires returns)

@@ -9,11 +9,11 @@ use Rattle.steps.proofs.list_commits.Tie as tie
 others-requires : tie.Need-others-requires
 others-requires c κs = search needs
 
-mul-next : tie.Need-mul-next
-mul-next c = search needs
+mul-lists : tie.Need-mul-lists
+mul-lists c = search needs
 
-element-write-next : tie.Need-element-write-next
-element-write-next c = search needs
+array-write-lists : tie.Need-array-write-lists
+array-write-lists c = search needs
 
 go-on-requires : tie.Need-go-on-requires
 go-on-requires c κs = search needs
@@ -24,4 +24,4 @@ returns c = λ d e. rw (← c .before .others .ensures) (c .go-on .ensures d e)
 
 pub list-commits-spec : {M : Type 1} → statement M
 list-commits-spec =
-    tie.close (tie.spec others-requires mul-next element-write-next go-on-requires returns)
+    tie.close (tie.spec others-requires mul-lists array-write-lists go-on-requires returns)

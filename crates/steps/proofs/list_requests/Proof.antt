@@ -9,8 +9,8 @@ use Rattle.steps.proofs.list_requests.Tie as tie
 mul-number : tie.Need-mul-number
 mul-number c = search needs
 
-element-copy-out-number : tie.Need-element-copy-out-number
-element-copy-out-number c = search needs
+array-read-number : tie.Need-array-read-number
+array-read-number c = search needs
 
 cast-used : tie.Need-cast-used
 cast-used c = search needs
@@ -21,11 +21,11 @@ others-requires c κs = search needs
 sharers-requires : tie.Need-sharers-requires
 sharers-requires c κs = search needs
 
-mul-next : tie.Need-mul-next
-mul-next c = search needs
+mul-blockers : tie.Need-mul-blockers
+mul-blockers c = search needs
 
-element-write-next : tie.Need-element-write-next
-element-write-next c = search needs
+array-write-blockers : tie.Need-array-write-blockers
+array-write-blockers c = search needs
 
 go-on-requires : tie.Need-go-on-requires
 go-on-requires c κs = search needs
@@ -41,11 +41,11 @@ list-requests-spec =
     tie.close
     (tie.spec
     mul-number
-    element-copy-out-number
+    array-read-number
     cast-used
     others-requires
     sharers-requires
-    mul-next
-    element-write-next
+    mul-blockers
+    array-write-blockers
     go-on-requires
     returns)

@@ -1,5 +1,6 @@
 -- `steps::looked`: the next stage where the list is empty, else its size.
 -- Assumes nothing.
+use native.Mathlib.Omega.{arith}
 use borrow.Author.Needs.{needs}
 use borrow.Author.Tests.{eq-eqb, ne-eqb}
 use Rattle.spec.specs.Bytes.{seen}
@@ -13,14 +14,14 @@ go-on-requires c κs = search needs
 
 returns : tie.Need-returns
 unfolding looked
-returns c = λ d e. rw (eq-eqb _ 0 (c .before .if1 .taken)) (c .go-on .ensures d e)
+returns c = λ d e. rw (eq-eqb (c .before .before .args .list) 0 (omega arith)) (c .go-on .ensures d e)
 
 count-requires : tie.Need-count-requires
 count-requires c κs = search needs
 
 returns-2 : tie.Need-returns-2
 unfolding looked seen
-returns-2 c = λ d e. stays _ d e _ _ (rw (ne-eqb _ 0 (c .before .if1 .left), c .count .ensures))
+returns-2 c = λ d e. stays _ d e _ _ (rw (ne-eqb (c .before .before .args .list) 0 (λ z. omega arith), c .count .ensures))
 
 pub looked-spec : {M : Type 1} → statement M
 looked-spec = tie.close (tie.spec go-on-requires returns count-requires returns-2)

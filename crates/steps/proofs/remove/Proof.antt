@@ -15,8 +15,8 @@ use Rattle.steps.proofs.remove.Tie as tie
 mul-number : tie.Need-mul-number
 mul-number c = search needs
 
-element-copy-out-number : tie.Need-element-copy-out-number
-element-copy-out-number c = search needs
+array-read-number : tie.Need-array-read-number
+array-read-number c = search needs
 
 cast-used : tie.Need-cast-used
 cast-used c = search needs
@@ -26,10 +26,10 @@ remove-rows-requires c κs = search needs
 
 cast-left : tie.Need-cast-left
 cast-left c =
-    let a = c .before .before .before .before .before .before .args in
+    let a = c .before .before .before .before .before .before .before .args in
     let r = c .before .before .remove-rows in
-    let n = getD (a .t1 .number) (a .client) 0 in
-    omega (arith, r .ensures .rows, filter-fewer (otherTag n) (rowsIn 24 (a .t1 .used) (a .rows .now)), length-rows 24 (a .t1 .used) (a .rows .now))
+    let n = getD (a .store .number) (a .client) 0 in
+    omega (arith, r .ensures .rows, filter-fewer (otherTag n) (rowsIn 24 (a .store .used) (a .rows .now)), length-rows 24 (a .store .used) (a .rows .now))
 
 close-requires : tie.Need-close-requires
 close-requires c κs = search needs
@@ -40,10 +40,10 @@ same-length c = search needs
 returns : tie.Need-returns
 unfolding removed seen storeOf otherTag
 returns c =
-    let a = c .before .before .before .before .before .before .before .args in
+    let a = c .before .before .before .before .before .before .before .before .args in
     let r = c .before .before .before .remove-rows in
     record {
-      store = λ e. rw (c .close .ensures) (removed-store (a .t1) (a .rows .now) e (a .client) _ (r .ensures .rows));
+      store = λ e. rw (c .close .ensures) (removed-store (a .store) (a .rows .now) e (a .client) _ (r .ensures .rows));
       bytes = λ e. r .ensures .bytes;
     }
 
@@ -52,7 +52,7 @@ remove-spec =
     tie.close
     (tie.spec
     mul-number
-    element-copy-out-number
+    array-read-number
     cast-used
     remove-rows-requires
     cast-left

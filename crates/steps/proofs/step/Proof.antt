@@ -15,8 +15,8 @@ use Rattle.steps.proofs.step.Tie as tie
 mul-stage : tie.Need-mul-stage
 mul-stage c = search needs
 
-element-copy-out-stage : tie.Need-element-copy-out-stage
-element-copy-out-stage c = search needs
+array-read-stage : tie.Need-array-read-stage
+array-read-stage c = search needs
 
 enter-requires : tie.Need-enter-requires
 enter-requires c κs = let f = fit-of _ _ _ (c .before .before .before .before .before .pre .1) in (omega arith, omega arith)
@@ -128,16 +128,16 @@ returns-15 : tie.Need-returns-15
 returns-15 c =
     let a = c .before .before .before .before .before .args in
     let r = c .before .match .rest in
-    let h : 14 ≤ getD (a .t1 .stage) (a .client) 0 =
+    let h : 14 ≤ getD (a .store .stage) (a .client) 0 =
     above (above (above (above (above (above (above (above (above (above (above (above (above (above zero-le (r .0 .0 .0 .0 .0 .0 .0 .0 .0 .0 .0 .0 .0 .1)) (r .0 .0 .0 .0 .0 .0 .0 .0 .0 .0 .0 .0 .1)) (r .0 .0 .0 .0 .0 .0 .0 .0 .0 .0 .0 .1)) (r .0 .0 .0 .0 .0 .0 .0 .0 .0 .0 .1)) (r .0 .0 .0 .0 .0 .0 .0 .0 .0 .1)) (r .0 .0 .0 .0 .0 .0 .0 .0 .1)) (r .0 .0 .0 .0 .0 .0 .0 .1)) (r .0 .0 .0 .0 .0 .0 .1)) (r .0 .0 .0 .0 .0 .1)) (r .0 .0 .0 .0 .1)) (r .0 .0 .0 .1)) (r .0 .0 .1)) (r .0 .1)) (r .1) in
-    rw (c .refuse .ensures, List·getD-eq-default steps noStep {n = getD (a .t1 .stage) (a .client) 0} h) (stays _ _ _ _ _ refl)
+    rw (c .refuse .ensures, List·getD-eq-default steps noStep {n = getD (a .store .stage) (a .client) 0} h) (stays _ _ _ _ _ refl)
 
 pub step-spec : {M : Type 1} → statement M
 step-spec =
     tie.close
     (tie.spec
     mul-stage
-    element-copy-out-stage
+    array-read-stage
     enter-requires
     take-request-requires
     go-on-requires

@@ -18,20 +18,27 @@ returns c = λ d e. rw (c .refuse .ensures) (stays _ d e _ _ (rw (eq-eqb _ 42949
 add-n : tie.Need-add-n
 add-n c = search needs
 
-mul-next : tie.Need-mul-next
-mul-next c = search needs
+mul-requests : tie.Need-mul-requests
+mul-requests c = search needs
 
-element-write-next : tie.Need-element-write-next
-element-write-next c = search needs
+array-write-requests : tie.Need-array-write-requests
+array-write-requests c = search needs
 
 go-on-requires : tie.Need-go-on-requires
 go-on-requires c κs = search needs
 
 returns-2 : tie.Need-returns-2
 unfolding takeRequest seen laidOut
-returns-2 c = λ d e. rw (ne-eqb _ 4294967295 (c .before .before .if1 .left)) (c .go-on .ensures d e)
+returns-2 c = λ d e. rw (ne-eqb _ 4294967295 (c .before .before .before .if1 .left)) (c .go-on .ensures d e)
 
 pub take-request-spec : {M : Type 1} → statement M
 take-request-spec =
     tie.close
-    (tie.spec refuse-requires returns add-n mul-next element-write-next go-on-requires returns-2)
+    (tie.spec
+    refuse-requires
+    returns
+    add-n
+    mul-requests
+    array-write-requests
+    go-on-requires
+    returns-2)

@@ -1,7 +1,6 @@
 -- `store::abandon`: the refusals in the definition's order, then the rows removed and the client closed.
 -- Assumes nothing.
 use mathlib.Core.Path.{sym, ap, _∙_}
-use Prim.Native.Nat.{_-_}
 use native.Mathlib.Omega.{arith}
 use borrow.Author.Needs.{needs}
 use borrow.Author.Tests.{lt-leb, le-leb, eq-eqb, ne-eqb, not-true, not-false}
@@ -36,8 +35,8 @@ returns-2 c =
 mul-if3 : tie.Need-mul-if3
 mul-if3 c = search needs
 
-element-copy-out-if3 : tie.Need-element-copy-out-if3
-element-copy-out-if3 c = search needs
+array-read-if3 : tie.Need-array-read-if3
+array-read-if3 c = search needs
 
 no-figure-requires-3 : tie.Need-no-figure-requires-3
 no-figure-requires-3 c κs = search needs
@@ -46,14 +45,14 @@ returns-3 : tie.Need-returns-3
 unfolding abandon seen
 returns-3 c =
     let a = c .before .before .before .before .before .before .before .before .args in
-    let s = a .t1 in
+    let s = a .store in
     rw (c .no-figure3 .ensures) (refuses _ _ _ _ _ (sym (c .before .before .before .before .before .fit .ensures) ∙ not-false _ (c .before .before .before .before .if1 .left)) (rw (lt-leb clients (a .client) (omega arith), eq-eqb (getD (s .number) (a .client) 0) 0 (omega arith))))
 
 mul-if4 : tie.Need-mul-if4
 mul-if4 c = search needs
 
-element-copy-out-if4 : tie.Need-element-copy-out-if4
-element-copy-out-if4 c = search needs
+array-read-if4 : tie.Need-array-read-if4
+array-read-if4 c = search needs
 
 no-figure-requires-4 : tie.Need-no-figure-requires-4
 no-figure-requires-4 c κs = search needs
@@ -62,14 +61,16 @@ returns-4 : tie.Need-returns-4
 unfolding abandon seen
 returns-4 c =
     let a = c .before .before .before .before .before .before .before .before .before .before .args in
-    let s = a .t1 in
+    let s = a .store in
     rw (c .no-figure4 .ensures) (refuses _ _ _ _ _ (sym (c .before .before .before .before .before .before .before .fit .ensures) ∙ not-false _ (c .before .before .before .before .before .before .if1 .left)) (rw (lt-leb clients (a .client) (omega arith), ne-eqb (getD (s .number) (a .client) 0) 0 (c .before .before .before .if3 .left), le-leb 12 (getD (s .stage) (a .client) 0) (omega arith))))
 
 remove-requires : tie.Need-remove-requires
 remove-requires c κs = let f = fit-of _ _ _ (sym (c .before .before .before .before .before .before .before .fit .ensures) ∙ not-false _ (c .before .before .before .before .before .before .if1 .left)) in (omega arith, (omega arith, omega arith))
 
-sub-t19 : tie.Need-sub-t19
-sub-t19 c = let f = fit-of _ _ _ (sym (c .before .before .before .before .before .before .before .before .before .before .before .fit .ensures) ∙ not-false _ (c .before .before .before .before .before .before .before .before .before .before .if1 .left)) in removed-within _ _ (c .before .before .before .before .before .before .before .before .before .before .before .before .before .before .args .commits .now) _ _ _ (c .before .before .before .remove .ensures) (f .dataRows)
+sub-t17 : tie.Need-sub-t17
+sub-t17 c =
+    let f = fit-of _ _ _ (sym (c .before .before .before .before .before .before .before .before .before .before .before .fit .ensures) ∙ not-false _ (c .before .before .before .before .before .before .before .before .before .before .if1 .left)) in
+    omega (arith, f .dataRows, removed-within _ _ (c .before .before .before .before .before .before .before .before .before .before .before .before .before .before .args .commits .now) _ _ _ (c .before .before .before .remove .ensures) (f .dataRows))
 
 same-length : tie.Need-same-length
 same-length c = search needs
@@ -91,14 +92,14 @@ abandon-spec =
     no-figure-requires-2
     returns-2
     mul-if3
-    element-copy-out-if3
+    array-read-if3
     no-figure-requires-3
     returns-3
     mul-if4
-    element-copy-out-if4
+    array-read-if4
     no-figure-requires-4
     returns-4
     remove-requires
-    sub-t19
+    sub-t17
     same-length
     returns-5)

@@ -33,8 +33,8 @@ returns-2 c =
 mul-if3 : tie.Need-mul-if3
 mul-if3 c = search needs
 
-element-copy-out-if3 : tie.Need-element-copy-out-if3
-element-copy-out-if3 c = search needs
+array-read-if3 : tie.Need-array-read-if3
+array-read-if3 c = search needs
 
 no-advance-requires-3 : tie.Need-no-advance-requires-3
 no-advance-requires-3 c κs = search needs
@@ -43,7 +43,7 @@ returns-3 : tie.Need-returns-3
 unfolding advance seen
 returns-3 c =
     let a = c .before .before .before .before .before .before .before .before .args in
-    let s = a .t1 in
+    let s = a .store in
     rw (c .no-advance3 .ensures) (refuses _ _ _ _ _ (sym (c .before .before .before .before .before .fit .ensures) ∙ not-false _ (c .before .before .before .before .if1 .left)) (rw (lt-leb clients (a .client) (omega arith), eq-eqb (getD (s .number) (a .client) 0) 0 (omega arith))))
 
 step-requires : tie.Need-step-requires
@@ -59,7 +59,7 @@ returns-4 : tie.Need-returns-4
 unfolding advance seen
 returns-4 c =
     let a = c .before .before .before .before .before .before .before .before .before .before .before .before .before .before .args in
-    let s = a .t1 in
+    let s = a .store in
     goes _ _ _ _ (sym (c .before .before .before .before .before .before .before .before .before .before .before .fit .ensures) ∙ not-false _ (c .before .before .before .before .before .before .before .before .before .before .if1 .left)) (rw (lt-leb clients (a .client) (omega arith), ne-eqb (getD (s .number) (a .client) 0) 0 (c .before .before .before .before .before .before .before .if3 .left)) (c .before .before .before .before .step .ensures))
 
 pub advance-spec : {M : Type 1} → statement M
@@ -72,7 +72,7 @@ advance-spec =
     no-advance-requires-2
     returns-2
     mul-if3
-    element-copy-out-if3
+    array-read-if3
     no-advance-requires-3
     returns-3
     step-requires

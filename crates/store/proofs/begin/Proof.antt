@@ -33,8 +33,8 @@ returns-2 c =
 mul-if3 : tie.Need-mul-if3
 mul-if3 c = search needs
 
-element-copy-out-if3 : tie.Need-element-copy-out-if3
-element-copy-out-if3 c = search needs
+array-read-if3 : tie.Need-array-read-if3
+array-read-if3 c = search needs
 
 no-begin-requires-3 : tie.Need-no-begin-requires-3
 no-begin-requires-3 c κs = search needs
@@ -43,7 +43,7 @@ returns-3 : tie.Need-returns-3
 unfolding begin seen
 returns-3 c =
     let a = c .before .before .before .before .before .before .before .before .args in
-    let s = a .t1 in
+    let s = a .store in
     rw (c .no-begin3 .ensures) (refuses _ _ _ _ _ (sym (c .before .before .before .before .before .fit .ensures) ∙ not-false _ (c .before .before .before .before .if1 .left)) (rw (lt-leb clients (a .client) (omega arith), ne-eqb (getD (s .number) (a .client) 0) 0 (c .before .if3 .taken))))
 
 no-begin-requires-4 : tie.Need-no-begin-requires-4
@@ -52,61 +52,61 @@ no-begin-requires-4 c κs = search needs
 returns-4 : tie.Need-returns-4
 unfolding begin seen
 returns-4 c =
-    let a = c .before .before .before .before .before .before .before .before .before .args in
-    let s = a .t1 in
-    rw (c .no-begin4 .ensures) (refuses _ _ _ _ _ (sym (c .before .before .before .before .before .before .fit .ensures) ∙ not-false _ (c .before .before .before .before .before .if1 .left)) (rw (lt-leb clients (a .client) (omega arith), eq-eqb (getD (s .number) (a .client) 0) 0 (omega arith), eq-eqb (s .issued) 4294967295 (omega arith))))
+    let a = c .before .before .before .before .before .before .before .before .before .before .args in
+    let s = a .store in
+    rw (c .no-begin4 .ensures) (refuses _ _ _ _ _ (sym (c .before .before .before .before .before .before .before .fit .ensures) ∙ not-false _ (c .before .before .before .before .before .before .if1 .left)) (rw (lt-leb clients (a .client) (omega arith), eq-eqb (getD (s .number) (a .client) 0) 0 (omega arith), eq-eqb (s .issued) 4294967295 (omega arith))))
 
 add-number : tie.Need-add-number
 add-number c = search needs
 
-mul-next : tie.Need-mul-next
-mul-next c = search needs
+mul-stages : tie.Need-mul-stages
+mul-stages c = search needs
 
-element-write-next : tie.Need-element-write-next
-element-write-next c = search needs
+array-write-stages : tie.Need-array-write-stages
+array-write-stages c = search needs
 
-mul-next-2 : tie.Need-mul-next-2
-mul-next-2 c = search needs
+mul-numbers : tie.Need-mul-numbers
+mul-numbers c = search needs
 
-element-write-next-2 : tie.Need-element-write-next-2
-element-write-next-2 c = search needs
+array-write-numbers : tie.Need-array-write-numbers
+array-write-numbers c = search needs
 
-mul-next-3 : tie.Need-mul-next-3
-mul-next-3 c = search needs
+mul-snapshots : tie.Need-mul-snapshots
+mul-snapshots c = search needs
 
-element-write-next-3 : tie.Need-element-write-next-3
-element-write-next-3 c = search needs
+array-write-snapshots : tie.Need-array-write-snapshots
+array-write-snapshots c = search needs
 
-mul-next-4 : tie.Need-mul-next-4
-mul-next-4 c = search needs
+mul-requests : tie.Need-mul-requests
+mul-requests c = search needs
 
-element-write-next-4 : tie.Need-element-write-next-4
-element-write-next-4 c = search needs
+array-write-requests : tie.Need-array-write-requests
+array-write-requests c = search needs
 
-mul-next-5 : tie.Need-mul-next-5
-mul-next-5 c = search needs
+mul-commit-numbers : tie.Need-mul-commit-numbers
+mul-commit-numbers c = search needs
 
-element-write-next-5 : tie.Need-element-write-next-5
-element-write-next-5 c = search needs
+array-write-commit-numbers : tie.Need-array-write-commit-numbers
+array-write-commit-numbers c = search needs
 
-mul-next-6 : tie.Need-mul-next-6
-mul-next-6 c = search needs
+mul-blockers : tie.Need-mul-blockers
+mul-blockers c = search needs
 
-element-write-next-6 : tie.Need-element-write-next-6
-element-write-next-6 c = search needs
+array-write-blockers : tie.Need-array-write-blockers
+array-write-blockers c = search needs
 
-mul-next-7 : tie.Need-mul-next-7
-mul-next-7 c = search needs
+mul-ahead : tie.Need-mul-ahead
+mul-ahead c = search needs
 
-element-write-next-7 : tie.Need-element-write-next-7
-element-write-next-7 c = search needs
+array-write-ahead : tie.Need-array-write-ahead
+array-write-ahead c = search needs
 
 returns-5 : tie.Need-returns-5
 unfolding begin begun seen
 returns-5 c =
-    let a = c .before .before .before .before .before .before .before .before .args in
-    let s = a .t1 in
-    settles _ _ _ _ _ _ _ (sym (c .before .before .before .before .before .fit .ensures) ∙ not-false _ (c .before .before .before .before .if1 .left)) (rw (lt-leb clients (a .client) (omega arith), eq-eqb (getD (s .number) (a .client) 0) 0 (omega arith), ne-eqb (s .issued) 4294967295 (c .if4 .left)))
+    let a = c .before .before .before .before .before .before .before .before .before .before .before .before .before .before .before .before .args in
+    let s = a .store in
+    settles _ _ _ _ _ _ _ (sym (c .before .before .before .before .before .before .before .before .before .before .before .before .before .fit .ensures) ∙ not-false _ (c .before .before .before .before .before .before .before .before .before .before .before .before .if1 .left)) (rw (lt-leb clients (a .client) (omega arith), eq-eqb (getD (s .number) (a .client) 0) 0 (omega arith), ne-eqb (s .issued) 4294967295 (c .before .before .before .before .before .before .before .if4 .left)))
 
 pub begin-spec : {M : Type 1} → statement M
 begin-spec =
@@ -118,24 +118,24 @@ begin-spec =
     no-begin-requires-2
     returns-2
     mul-if3
-    element-copy-out-if3
+    array-read-if3
     no-begin-requires-3
     returns-3
     no-begin-requires-4
     returns-4
     add-number
-    mul-next
-    element-write-next
-    mul-next-2
-    element-write-next-2
-    mul-next-3
-    element-write-next-3
-    mul-next-4
-    element-write-next-4
-    mul-next-5
-    element-write-next-5
-    mul-next-6
-    element-write-next-6
-    mul-next-7
-    element-write-next-7
+    mul-stages
+    array-write-stages
+    mul-numbers
+    array-write-numbers
+    mul-snapshots
+    array-write-snapshots
+    mul-requests
+    array-write-requests
+    mul-commit-numbers
+    array-write-commit-numbers
+    mul-blockers
+    array-write-blockers
+    mul-ahead
+    array-write-ahead
     returns-5)

@@ -1,7 +1,6 @@
 -- `store::lookup`: the value that the answer names.
 -- Assumes nothing.
 use mathlib.Core.Path.{ap}
-use Prim.Native.Nat.{_-_}
 use borrow.Author.Needs.{needs}
 use Rattle.store.specs.Reads.{valueFrom}
 use Rattle.store.proofs.lookup.Statement.{statement}

@@ -1,7 +1,6 @@
 -- `store::read`: the refusals in the definition's order, then the row that was found.
 -- Assumes nothing.
 use mathlib.Core.Path.{sym, _∙_}
-use Prim.Native.Nat.{_-_}
 use native.Mathlib.Omega.{arith}
 use borrow.Author.Needs.{needs}
 use borrow.Author.Tests.{lt-leb, le-leb, eq-eqb, ne-eqb, not-true, not-false}
@@ -44,8 +43,8 @@ returns-3 c =
 mul-number : tie.Need-mul-number
 mul-number c = search needs
 
-element-copy-out-number : tie.Need-element-copy-out-number
-element-copy-out-number c = search needs
+array-read-number : tie.Need-array-read-number
+array-read-number c = search needs
 
 no-read-requires-4 : tie.Need-no-read-requires-4
 no-read-requires-4 c κs = search needs
@@ -54,14 +53,14 @@ returns-4 : tie.Need-returns-4
 unfolding read seen
 returns-4 c =
     let a = c .before .before .before .before .before .before .before .before .before .args in
-    let s = a .t1 in
+    let s = a .store in
     rw (c .no-read4 .ensures) (refuses _ _ _ _ _ (sym (c .before .before .before .before .before .before .fit .ensures) ∙ not-false _ (c .before .before .before .before .before .if1 .left)) (rw (lt-leb clients (a .client) (omega arith), lt-leb 1024 (a .cell) (omega arith), eq-eqb (getD (s .number) (a .client) 0) 0 (omega arith))))
 
 mul-if5 : tie.Need-mul-if5
 mul-if5 c = search needs
 
-element-copy-out-if5 : tie.Need-element-copy-out-if5
-element-copy-out-if5 c = search needs
+array-read-if5 : tie.Need-array-read-if5
+array-read-if5 c = search needs
 
 no-read-requires-5 : tie.Need-no-read-requires-5
 no-read-requires-5 c κs = search needs
@@ -70,7 +69,7 @@ returns-5 : tie.Need-returns-5
 unfolding read seen
 returns-5 c =
     let a = c .before .before .before .before .before .before .before .before .before .before .before .args in
-    let s = a .t1 in
+    let s = a .store in
     rw (c .no-read5 .ensures) (refuses _ _ _ _ _ (sym (c .before .before .before .before .before .before .before .before .fit .ensures) ∙ not-false _ (c .before .before .before .before .before .before .before .if1 .left)) (rw (lt-leb clients (a .client) (omega arith), lt-leb 1024 (a .cell) (omega arith), ne-eqb (getD (s .number) (a .client) 0) 0 (c .before .before .before .if4 .left), ne-eqb (getD (s .stage) (a .client) 0) 0 (c .before .if5 .taken))))
 
 cast-used : tie.Need-cast-used
@@ -82,11 +81,11 @@ cast-entries c = search needs
 mul-snapshot : tie.Need-mul-snapshot
 mul-snapshot c = search needs
 
-element-copy-out-snapshot : tie.Need-element-copy-out-snapshot
-element-copy-out-snapshot c = search needs
+array-read-snapshot : tie.Need-array-read-snapshot
+array-read-snapshot c = search needs
 
 look-for-requires : tie.Need-look-for-requires
-look-for-requires c κs = let f = fit-of _ _ _ (sym (c .before .before .before .before .before .before .before .before .fit .ensures) ∙ not-false _ (c .before .before .before .before .before .before .before .if1 .left)) in (omega arith, omega arith)
+look-for-requires c κs = let f = fit-of _ _ _ (sym (c .before .before .before .before .before .before .before .before .before .before .fit .ensures) ∙ not-false _ (c .before .before .before .before .before .before .before .before .before .if1 .left)) in (omega arith, omega arith)
 
 enum-known-seen : tie.Need-enum-known-seen
 enum-known-seen c = search needs
@@ -96,13 +95,13 @@ enum-told c = search needs
 
 returns-6 : tie.Need-returns-6
 returns-6 c =
-    refuses _ _ _ _ _ (sym (c .before .before .before .before .before .before .before .before .before .before .before .before .fit .ensures) ∙ not-false _ (c .before .before .before .before .before .before .before .before .before .before .before .if1 .left))
-    (read-found _ _ _ _ _ (omega arith) (omega arith) (c .before .before .before .before .before .before .before .if4 .left) (c .before .before .before .before .before .if5 .left) _ _ (c .before .seen .given .1) (c .before .before .before .look-for .ensures))
+    refuses _ _ _ _ _ (sym (c .before .before .before .before .before .before .before .before .before .before .before .before .before .before .fit .ensures) ∙ not-false _ (c .before .before .before .before .before .before .before .before .before .before .before .before .before .if1 .left))
+    (read-found _ _ _ _ _ (omega arith) (omega arith) (c .before .before .before .before .before .before .before .before .before .if4 .left) (c .before .before .before .before .before .before .before .if5 .left) _ _ (c .before .seen .given .1) (c .before .before .before .look-for .ensures))
 
 returns-7 : tie.Need-returns-7
 returns-7 c =
-    refuses _ _ _ _ _ (sym (c .before .before .before .before .before .before .before .before .before .before .before .fit .ensures) ∙ not-false _ (c .before .before .before .before .before .before .before .before .before .before .if1 .left))
-    (read-found _ _ _ _ _ (omega arith) (omega arith) (c .before .before .before .before .before .before .if4 .left) (c .before .before .before .before .if5 .left) _ _ (c .enum-told .given .1) (c .before .before .look-for .ensures))
+    refuses _ _ _ _ _ (sym (c .before .before .before .before .before .before .before .before .before .before .before .before .before .fit .ensures) ∙ not-false _ (c .before .before .before .before .before .before .before .before .before .before .before .before .if1 .left))
+    (read-found _ _ _ _ _ (omega arith) (omega arith) (c .before .before .before .before .before .before .before .before .if4 .left) (c .before .before .before .before .before .before .if5 .left) _ _ (c .enum-told .given .1) (c .before .before .look-for .ensures))
 
 pub read-spec : {M : Type 1} → statement M
 read-spec =
@@ -116,17 +115,17 @@ read-spec =
     no-read-requires-3
     returns-3
     mul-number
-    element-copy-out-number
+    array-read-number
     no-read-requires-4
     returns-4
     mul-if5
-    element-copy-out-if5
+    array-read-if5
     no-read-requires-5
     returns-5
     cast-used
     cast-entries
     mul-snapshot
-    element-copy-out-snapshot
+    array-read-snapshot
     look-for-requires
     enum-known-seen
     enum-told

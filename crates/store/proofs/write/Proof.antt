@@ -1,7 +1,6 @@
 -- `store::write`: the refusals in the definition's order, then the row.
 -- Assumes nothing.
 use mathlib.Core.Path.{sym, ap, _∙_}
-use Prim.Native.Nat.{_-_}
 use native.Mathlib.Omega.{arith}
 use borrow.Author.Needs.{needs}
 use borrow.Author.Tests.{lt-leb, le-leb, eq-eqb, ne-eqb, not-true, not-false}
@@ -56,8 +55,8 @@ returns-4 c =
 mul-number : tie.Need-mul-number
 mul-number c = search needs
 
-element-copy-out-number : tie.Need-element-copy-out-number
-element-copy-out-number c = search needs
+array-read-number : tie.Need-array-read-number
+array-read-number c = search needs
 
 no-figure-requires-5 : tie.Need-no-figure-requires-5
 no-figure-requires-5 c κs = search needs
@@ -66,14 +65,14 @@ returns-5 : tie.Need-returns-5
 unfolding write seen
 returns-5 c =
     let a = c .before .before .before .before .before .before .before .before .before .before .before .args in
-    let s = a .t1 in
+    let s = a .store in
     rw (c .no-figure5 .ensures) (refuses _ _ _ _ _ (sym (c .before .before .before .before .before .before .before .fit .ensures) ∙ not-false _ (c .before .before .before .before .before .before .if1 .left)) (rw (lt-leb clients (a .client) (omega arith), lt-leb 1024 (a .cell) (omega arith), eq-eqb (length (a .value .now)) 16 (omega arith), eq-eqb (getD (s .number) (a .client) 0) 0 (omega arith))))
 
 mul-if6 : tie.Need-mul-if6
 mul-if6 c = search needs
 
-element-copy-out-if6 : tie.Need-element-copy-out-if6
-element-copy-out-if6 c = search needs
+array-read-if6 : tie.Need-array-read-if6
+array-read-if6 c = search needs
 
 no-figure-requires-6 : tie.Need-no-figure-requires-6
 no-figure-requires-6 c κs = search needs
@@ -82,52 +81,52 @@ returns-6 : tie.Need-returns-6
 unfolding write seen
 returns-6 c =
     let a = c .before .before .before .before .before .before .before .before .before .before .before .before .before .args in
-    let s = a .t1 in
+    let s = a .store in
     rw (c .no-figure6 .ensures) (refuses _ _ _ _ _ (sym (c .before .before .before .before .before .before .before .before .before .fit .ensures) ∙ not-false _ (c .before .before .before .before .before .before .before .before .if1 .left)) (rw (lt-leb clients (a .client) (omega arith), lt-leb 1024 (a .cell) (omega arith), eq-eqb (length (a .value .now)) 16 (omega arith), ne-eqb (getD (s .number) (a .client) 0) 0 (c .before .before .before .if5 .left), ne-eqb (getD (s .stage) (a .client) 0) 0 (c .before .if6 .taken))))
 
 cast-used : tie.Need-cast-used
 cast-used c = search needs
 
 own-row-requires : tie.Need-own-row-requires
-own-row-requires c κs = let f = fit-of _ _ _ (sym (c .before .before .before .before .before .before .before .before .before .fit .ensures) ∙ not-false _ (c .before .before .before .before .before .before .before .before .if1 .left)) in omega arith
+own-row-requires c κs = let f = fit-of _ _ _ (sym (c .before .before .before .before .before .before .before .before .before .before .fit .ensures) ∙ not-false _ (c .before .before .before .before .before .before .before .before .before .if1 .left)) in omega arith
 
 enum-known-own : tie.Need-enum-known-own
 enum-known-own c = search needs
 
 replace-row-requires : tie.Need-replace-row-requires
 replace-row-requires c κs =
-    let a = c .before .before .before .before .before .before .before .before .before .before .before .before .before .before .before .before .before .before .args in
-    let f : Found = find (isOwn (getD (a .t1 .number) (a .client) 0) (a .cell)) 0 (rowsIn 24 (a .t1 .used) (a .rows .now)) in
+    let a = c .before .before .before .before .before .before .before .before .before .before .before .before .before .before .before .before .before .before .before .args in
+    let f : Found = find (isOwn (getD (a .store .number) (a .client) 0) (a .cell)) 0 (rowsIn 24 (a .store .used) (a .rows .now)) in
     let found = own-row f _ _ _ (c .before .before .before .before .own-row .ensures) (c .before .before .own .given .1) in
-    ((sym (c .before .before .before .before .before .before .before .before .before .before .before .before .before .before .fit .ensures) ∙ not-false _ (c .before .before .before .before .before .before .before .before .before .before .before .before .before .if1 .left)), (found-below _ _ _ _ _ found, omega arith))
+    ((sym (c .before .before .before .before .before .before .before .before .before .before .before .before .before .before .before .fit .ensures) ∙ not-false _ (c .before .before .before .before .before .before .before .before .before .before .before .before .before .before .if1 .left)), (found-below _ _ _ _ _ found, omega arith))
 
 enum-known-own-2 : tie.Need-enum-known-own-2
 enum-known-own-2 c = search needs
 
 add-row-requires : tie.Need-add-row-requires
 add-row-requires c κs =
-    let a = c .before .before .before .before .before .before .before .before .before .before .before .before .before .before .before .before .before .before .args in
-    let f : Found = find (isOwn (getD (a .t1 .number) (a .client) 0) (a .cell)) 0 (rowsIn 24 (a .t1 .used) (a .rows .now)) in
+    let a = c .before .before .before .before .before .before .before .before .before .before .before .before .before .before .before .before .before .before .before .args in
+    let f : Found = find (isOwn (getD (a .store .number) (a .client) 0) (a .cell)) 0 (rowsIn 24 (a .store .used) (a .rows .now)) in
     let missing = own-rows f _ _ _ (c .before .before .before .before .own-row .ensures) (c .before .before .own2 .given .1) in
-    ((sym (c .before .before .before .before .before .before .before .before .before .before .before .before .before .before .fit .ensures) ∙ not-false _ (c .before .before .before .before .before .before .before .before .before .before .before .before .before .if1 .left)), (omega arith, (omega arith, (omega arith, missing .1))))
+    ((sym (c .before .before .before .before .before .before .before .before .before .before .before .before .before .before .before .fit .ensures) ∙ not-false _ (c .before .before .before .before .before .before .before .before .before .before .before .before .before .before .if1 .left)), (omega arith, (omega arith, (omega arith, missing .1))))
 
 same-length : tie.Need-same-length
 same-length c = search needs
 
 returns-7 : tie.Need-returns-7
 returns-7 c =
-    goes _ _ _ _ (sym (c .before .before .before .before .before .before .before .before .before .before .before .before .before .before .before .before .before .fit .ensures) ∙ not-false _ (c .before .before .before .before .before .before .before .before .before .before .before .before .before .before .before .before .if1 .left))
+    goes _ _ _ _ (sym (c .before .before .before .before .before .before .before .before .before .before .before .before .before .before .before .before .before .before .fit .ensures) ∙ not-false _ (c .before .before .before .before .before .before .before .before .before .before .before .before .before .before .before .before .before .if1 .left))
     (c .before .before .replace-row .ensures
-    ∙ ap (laidOut _ _ _) (write-stored _ _ _ _ _ (omega arith) (omega arith) (c .before .before .before .before .before .before .before .before .before .before .before .if5 .left) (c .before .before .before .before .before .before .before .before .before .if6 .left) _ _ (omega arith) (sym (own-row _ _ _ _ (c .before .before .before .before .before .before .before .own-row .ensures) (c .before .before .before .before .before .own .given .1)))))
+    ∙ ap (laidOut _ _ _) (write-stored _ _ _ _ _ (omega arith) (omega arith) (c .before .before .before .before .before .before .before .before .before .before .before .before .if5 .left) (c .before .before .before .before .before .before .before .before .before .before .if6 .left) _ _ (omega arith) (sym (own-row _ _ _ _ (c .before .before .before .before .before .before .before .own-row .ensures) (c .before .before .before .before .before .own .given .1)))))
 
 same-length-2 : tie.Need-same-length-2
 same-length-2 c = search needs
 
 returns-8 : tie.Need-returns-8
 returns-8 c =
-    goes _ _ _ _ (sym (c .before .before .before .before .before .before .before .before .before .before .before .before .before .before .before .before .before .fit .ensures) ∙ not-false _ (c .before .before .before .before .before .before .before .before .before .before .before .before .before .before .before .before .if1 .left))
+    goes _ _ _ _ (sym (c .before .before .before .before .before .before .before .before .before .before .before .before .before .before .before .before .before .before .fit .ensures) ∙ not-false _ (c .before .before .before .before .before .before .before .before .before .before .before .before .before .before .before .before .before .if1 .left))
     (c .before .before .add-row .ensures
-    ∙ ap (laidOut _ _ _) (write-stored _ _ _ _ _ (omega arith) (omega arith) (c .before .before .before .before .before .before .before .before .before .before .before .if5 .left) (c .before .before .before .before .before .before .before .before .before .if6 .left) _ _ (omega arith) (sym (own-rows _ _ _ _ (c .before .before .before .before .before .before .before .own-row .ensures) (c .before .before .before .before .before .own2 .given .1) .0))))
+    ∙ ap (laidOut _ _ _) (write-stored _ _ _ _ _ (omega arith) (omega arith) (c .before .before .before .before .before .before .before .before .before .before .before .before .if5 .left) (c .before .before .before .before .before .before .before .before .before .before .if6 .left) _ _ (omega arith) (sym (own-rows _ _ _ _ (c .before .before .before .before .before .before .before .own-row .ensures) (c .before .before .before .before .before .own2 .given .1) .0))))
 
 pub write-spec : {M : Type 1} → statement M
 write-spec =
@@ -143,11 +142,11 @@ write-spec =
     no-figure-requires-4
     returns-4
     mul-number
-    element-copy-out-number
+    array-read-number
     no-figure-requires-5
     returns-5
     mul-if6
-    element-copy-out-if6
+    array-read-if6
     no-figure-requires-6
     returns-6
     cast-used

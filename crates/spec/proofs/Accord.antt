@@ -1,0 +1,68 @@
+-- The definitions in accord with document 01: sentences of it, each as a law of the definitions or as an example that they compute.
+-- Assumes nothing.
+use Prim.Native.Nat.{ℕ, _≤_, _<_}
+use mathlib.Core.Path.{_≡_, refl}
+use mathlib.Core.Bool.{true}
+use mathlib.Core.Logic.{_⊎_, inl, inr}
+use mathlib.Core.List.{List, [], _∷_}
+use lib.ListN.{set, replicate}
+use borrow.Author.Tests.{le-leb, lt-leb, ne-eqb}
+use Rattle.sets.specs.Set.{clients, bit, member, remove, size}
+use Rattle.rows.specs.Rows.{number, bytesOf, dataRow, tagOf, cellOf, commitRow, commitNumber, commitTag, filter, hasTag}
+use Rattle.search.specs.Numbers.{lesser, smallest, above}
+use Rattle.search.specs.Look.{commitOf, isOwn}
+use Rattle.search.specs.Share.{any, wrote, cellsOf, clash, conflict}
+use Rattle.trimming.specs.Trim.{between, later, overtaken, stays, trimmedRows, inUse, trimmedCommits}
+use Rattle.spec.specs.declared.Progress.the-variants.{Waiting, Conflict}
+use Rattle.spec.specs.Answers.{wrongStage, cellLimit}
+use Rattle.spec.specs.Image.{Clients, Image, countersOf, clientsOf, imageOf, withRows, cleared, closed, stageOf, numberOf, isOpen, zeros}
+use Rattle.spec.specs.Calls.{gives, refuse, added, removed, abandon, readers, low, trimmedTo, trim}
+use Rattle.spec.specs.Steps.{looked, check}
+
+-- ---- refusals
+
+-- "9 cell limit reached, 10 no free row": 9 "even with no row free"
+pub limit-first : (k x : ℕ) (v : List ℕ) (i : Image) → i .limit ≤ cellsOf (numberOf i k) (i .dataRows) → added k x v i ≡ refuse cellLimit i
+unfolding added
+limit-first k x v i h = rw (le-leb _ _ h)
+
+-- "Abandon: [..] 7 at stages 12 and 13"
+pub abandoned-late : (k : ℕ) (i : Image) → k < clients → isOpen i k ≡ true → (stageOf i k ≡ 12) ⊎ (stageOf i k ≡ 13) → abandon k i ≡ refuse wrongStage i
+unfolding abandon
+abandoned-late k i h o (inl e) = rw (lt-leb clients k h, o, e)
+abandoned-late k i h o (inr e) = rw (lt-leb clients k h, o, e)
+
+-- ---- Advance
+
+-- "Waiting with the number of transactions still on its list": while one is left, the stage stays
+pub wait-first : (g k w : ℕ) (i : Image) → (w ≡ 0 → ⊥) → looked g k w i ≡ gives i (Waiting (size clients w))
+unfolding looked
+wait-first g k w i h = rw (ne-eqb w 0 h)
+
+-- the examples: a store of 4 rows, all values zero
+abbrev value : List ℕ
+value = replicate 16 0
+
+abbrev closedAll : Clients
+closedAll = clientsOf zeros zeros zeros zeros zeros zeros zeros
+
+-- "check commits above S for a shared cell": transaction 1 committed cell 7 under 1; client 0's transaction 2, with S 0, wrote it too
+abbrev meeting : Image
+meeting =
+    imageOf 4 16 (countersOf 2 2 1 1) (clientsOf (set zeros 0 5) (set zeros 0 2) zeros (set zeros 0 2) zeros zeros zeros)
+    (dataRow 1 7 value ∷ dataRow 2 7 value ∷ []) (commitRow 1 1 ∷ [])
+
+pub next-commit : check 0 meeting ≡ gives (imageOf 4 16 (countersOf 2 2 1 1) closedAll (dataRow 1 7 value ∷ []) (commitRow 1 1 ∷ [])) (Conflict 1)
+unfolding check removed closed cleared bit member remove conflict clash wrote any isOwn commitOf above smallest lesser filter hasTag tagOf cellOf commitTag commitNumber number dataRow commitRow bytesOf
+next-commit = refl
+
+-- ---- Trim
+
+-- "A committed data row goes if its cell has another with a larger commit number that is at most low": cell 7 was committed under 1, 2 and 3
+abbrev thrice : Image
+thrice =
+    imageOf 4 16 (countersOf 3 3 3 3) closedAll (dataRow 1 7 value ∷ dataRow 2 7 value ∷ dataRow 3 7 value ∷ []) (commitRow 1 1 ∷ commitRow 2 2 ∷ commitRow 3 3 ∷ [])
+
+pub one-row-left : trim thrice ≡ gives (withRows thrice (dataRow 3 7 value ∷ []) (commitRow 3 3 ∷ [])) 2
+unfolding trim trimmedTo low readers smallest lesser trimmedRows stays overtaken later between inUse trimmedCommits any commitOf filter hasTag tagOf cellOf commitTag commitNumber number dataRow commitRow bytesOf
+one-row-left = refl

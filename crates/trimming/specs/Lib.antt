@@ -1,0 +1,4 @@
+pub mod Trim
+pub mod Trimmed
+pub mod Places
+pub mod Newest
