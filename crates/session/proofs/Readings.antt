@@ -27,7 +27,7 @@ use Rattle.spec.specs.Bytes.{After, seen, leaves, laidOut, fits, after}
 use Rattle.spec.specs.Text.{readingText, answerText, lineText}
 use Rattle.spec.specs.Session.{World, worldOf, valueAt, said, called}
 use Rattle.spec.proofs.Ends.{fit-of}
-use Rattle.store.specs.Reads.{valueRead, valueFrom}
+use Rattle.reads.specs.Values.{valueRead, valueFrom}
 
 -- a row that an answer names has P
 abbrev pub Names : (ℕ → Type 0) → Answer Reading → Type 0

@@ -13,7 +13,7 @@ ghost use Rattle.spec.specs.Calls.{free, begin, read, write, abandon, trim};
 ghost use Rattle.spec.specs.Steps.{advance};
 ghost use Rattle.spec.specs.Text.{valueIn, freeText, droppedText, begunText, readingText, progressText, refusedText, lineText};
 ghost use Rattle.spec.specs.Session.{worldOf, responds, called, said, valueAt, setUpResponse, answerTo};
-ghost use Rattle.store.specs.Reads.{valueFrom};
+ghost use Rattle.reads.specs.Values.{valueFrom};
 ghost use Rattle.session.specs.Lines.{newlineFrom};
 ghost use Rattle.session.specs.Spoken.{Front, Spoken, keptOf, Fed};
 

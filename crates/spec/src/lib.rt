@@ -2,6 +2,9 @@
 use sets::CLIENTS;
 use sets::Set;
 
+// Cells are numbered 0 to 1,023.
+pub const CELLS: u32 = 1024;
+
 // The record: document 01, "What the store holds". A client has an open transaction where its number is not 0.
 pub struct Store {
     // rows of the store, and the cell limit

@@ -7,9 +7,10 @@ ghost use lib.ListN.{length, getD};
 ghost use Rattle.sets.specs.Set.{clients};
 ghost use Rattle.spec.specs.Answers.{Answer, advanceOf};
 ghost use Rattle.steps.specs.Removed.{Removed};
-ghost use Rattle.spec.specs.Steps.{goOn, enter, takeRequest, listRequests, looked, lookRequests, check, takeCommit, listCommits, lookCommits, addCommit, leaveCommits, leaveRequests, steps, noStep};
-ghost use Rattle.spec.specs.Bytes.{seen, leaves, laidOut, fits};
+ghost use Rattle.spec.specs.Steps.{goOn, enter, takeRequest, listRequests, looked, lookRequests, check, takeCommit, listCommits, lookCommits, addCommit, leaveCommits, leaveRequests, steps, noStep, advance};
+ghost use Rattle.spec.specs.Bytes.{seen, leaves, laidOut, fits, after};
 use search::Number;
+use sets::LIMIT;
 use sets::Set;
 use spec::AdvanceAnswer;
 use spec::AdvanceTurn;
@@ -295,7 +296,7 @@ fn leave_requests(store: Store, client: u32) -> AdvanceTurn
 }
 
 // The one step that the client's stage calls for.
-pub fn step(store: Store, rows: &mut [u8], commits: &mut [u8], client: u32) -> AdvanceTurn
+fn step(store: Store, rows: &mut [u8], commits: &mut [u8], client: u32) -> AdvanceTurn
     requires { ⌜ client < clients ⌝ }
     requires { ⌜ fits store (length (now rows)) (length (now commits)) ≡ true ⌝ }
     ensures { λ r. ⌜ leaves (r .store) (now (rows .exit)) (now (commits .exit)) (advanceOf (r .answer)) ≡ laidOut store (now (rows .entry)) (now (commits .entry)) (getD steps (getD (store .stage) client 0) noStep client (seen store (now (rows .entry)) (now (commits .entry)))) ⌝ }
@@ -320,4 +321,22 @@ pub fn step(store: Store, rows: &mut [u8], commits: &mut [u8], client: u32) -> A
         13 => leave_requests(store, client),
         _ => refuse(store, Refusal::Unfit),
     }
+}
+
+// Advance takes the one step that the client's stage calls for.
+pub fn advance(store: Store, rows: &mut [u8], commits: &mut [u8], client: u32) -> AdvanceTurn
+    ensures { λ r. ⌜ leaves (r .store) (now (rows .exit)) (now (commits .exit)) (advanceOf (r .answer)) ≡ after (advance client) store (now (rows .entry)) (now (commits .entry)) ⌝ }
+{
+    if !record::fit(store, rows.len(), commits.len()) {
+        return refuse(store, Refusal::Unfit);
+    }
+    if LIMIT <= client {
+        return refuse(store, Refusal::NoClient);
+    }
+    let k = client as usize;
+    let numbers = store.number;
+    if numbers[k] == 0 {
+        return refuse(store, Refusal::NotOpen);
+    }
+    step(store, rows, commits, client)
 }

@@ -1,65 +1,25 @@
 -- What the calls leave, by the facts that their code has found: one law for each way in which a call ends.
 -- Assumes nothing.
 use Prim.Native.Nat.{ℕ, _-_, _≤_, _<_}
-use mathlib.Core.Path.{_≡_, refl, ap}
+use mathlib.Core.Path.{_≡_, ap}
 use mathlib.Core.Bool.{Bool, not}
 use mathlib.Core.List.{List}
 use native.Mathlib.Omega.{arith}
-use borrow.Author.Tests.{lt-leb, eq-eqb, ne-eqb}
+use borrow.Author.Tests.{lt-leb, ne-eqb}
 use lib.ListN.{length, getD}
 use Rattle.sets.specs.Set.{clients}
 use Rattle.rows.specs.Rows.{Row, rowsIn, hasTag}
 use Rattle.rows.proofs.Rows.{length-rows, filter-fewer}
-use Rattle.search.specs.declared.Found.{Found}
-use Rattle.search.specs.declared.Found.the-variants.{At, Missing}
-use Rattle.search.specs.declared.Own.{Own}
-use Rattle.search.specs.declared.Own.the-variants.{Row as OwnRow, Rows as OwnRows}
-use Rattle.search.specs.declared.Seen.{Seen}
-use Rattle.search.specs.Look.{isOwn, find, lookFor}
-use Rattle.search.specs.Share.{rowOrCount}
-use Rattle.search.proofs.Below.{find-below}
 use Rattle.trimming.specs.Trim.{stays, inUse, trimmedRows, trimmedCommits}
 use Rattle.trimming.specs.Trimmed.{Trimmed}
 use Rattle.spec.specs.declared.Store.{Store}
 use Rattle.spec.specs.Answers.{Answered}
-use Rattle.spec.specs.Calls.{gives, reading, read, stored, write, removed, abandon, low, trimmedTo, trim}
+use Rattle.spec.specs.Calls.{gives, removed, abandon, low, trimmedTo, trim}
 use Rattle.spec.specs.Bytes.{countersIn, clientsIn, recordOf, seen, storeOf, leaves, laidOut}
 use Rattle.spec.proofs.Ends.{ends}
 use Rattle.steps.specs.Removed.{Removed}
 
--- what was found in one pass is what the definition looks for
-pub own-row : (f : Found) (n : ℕ) (o : Own) (j : ℕ) → o ≡ rowOrCount f n → o ≡ OwnRow j → f ≡ At j
-own-row (At i) n o j e g = let q : i ≡ j = cc in ap At q
-own-row Missing n o j e g = let z : _≡_ {A = ℕ} 0 1 = cc in absurd (nothing z)
-  where
-    nothing : _≡_ {A = ℕ} 0 1 → ⊥
-    nothing z = omega arith
-
-pub own-rows : (f : Found) (n : ℕ) (o : Own) (m : ℕ) → o ≡ rowOrCount f n → o ≡ OwnRows m → (f ≡ Missing) × (m ≡ n)
-own-rows (At i) n o m e g = let z : _≡_ {A = ℕ} 0 1 = cc in absurd (nothing z)
-  where
-    nothing : _≡_ {A = ℕ} 0 1 → ⊥
-    nothing z = omega arith
-own-rows Missing n o m e g = (refl, cc)
-
 module _ (s : Store) (d c : List ℕ) where
-  -- ---- Read
-
-  module _ (k x : ℕ) (h : k < clients) (g : x < 1024) (n : getD (s .number) k 0 ≡ 0 → ⊥) (t : getD (s .stage) k 0 ≡ 0) where
-    pub read-found : (o f : Seen) → o ≡ f → o ≡ lookFor (getD (s .number) k 0) x (getD (s .snapshot) k 0) (rowsIn 24 (s .used) d) (rowsIn 8 (s .entries) c)
-        → read k x (seen s d c) ≡ gives (seen s d c) (reading f)
-    unfolding read seen
-    read-found o f p e =
-        rw (lt-leb clients k h, lt-leb 1024 x g, ne-eqb (getD (s .number) k 0) 0 n, eq-eqb (getD (s .stage) k 0) 0 t, ← e, p)
-
-    -- ---- Write
-
-    pub write-stored : (v : List ℕ) (f : Found) → length v ≡ 16 → f ≡ find (isOwn (getD (s .number) k 0) x) 0 (rowsIn 24 (s .used) d)
-        → stored f k x v (seen s d c) ≡ write k x v (seen s d c)
-    unfolding write seen
-    write-stored v f l e =
-        rw (lt-leb clients k h, lt-leb 1024 x g, eq-eqb (length v) 16 l, ne-eqb (getD (s .number) k 0) 0 n, eq-eqb (getD (s .stage) k 0) 0 t, e)
-
   -- ---- Abandon
 
   pub abandon-removed : (k n : ℕ) → n ≡ removed k (seen s d c) .rows - length (removed k (seen s d c) .dataRows)
@@ -102,7 +62,3 @@ trimmed-fewer l n m d c d′ c′ n′ m′ t = (
   omega (arith, t .data-rows .rows, filter-fewer (stays l (rowsIn 24 n d) (rowsIn 8 m c)) (rowsIn 24 n d), length-rows 24 n d),
   omega (arith, t .commit-rows .rows, filter-fewer (inUse (trimmedRows l (rowsIn 24 n d) (rowsIn 8 m c))) (rowsIn 8 m c), length-rows 8 m c),
 )
-
--- a row that was found is in use
-pub found-below : (t x n : ℕ) (d : List ℕ) (j : ℕ) → find (isOwn t x) 0 (rowsIn 24 n d) ≡ At j → j < n
-found-below t x n d j e = omega (arith, find-below (isOwn t x) 0 j (rowsIn 24 n d) e, length-rows 24 n d)

@@ -1,29 +1,23 @@
 // The eight calls of the store, open to other programs: the record goes in and comes back by value, the buffers are lent. None asks anything of
-// its caller. What each leaves and answers is defined in the crate spec: `after` a call on a record and two buffers.
+// its caller. What each leaves and answers is defined in the crate spec: `after` a call on a record and two buffers. Read, Write and Advance
+// are passed on from crates of their own.
 ghost use mathlib.Core.Path.{_≡_};
-ghost use Rattle.spec.specs.Answers.{figureOf, beginOf, readOf, advanceOf};
-ghost use Rattle.spec.specs.Calls.{free, begin, read, write, abandon, trim};
-ghost use Rattle.spec.specs.Steps.{advance};
+ghost use Rattle.spec.specs.Answers.{figureOf, beginOf};
+ghost use Rattle.spec.specs.Calls.{free, begin, abandon, trim};
 ghost use Rattle.spec.specs.Bytes.{leaves, after, setUp};
-ghost use Rattle.store.specs.Reads.{valueRead, valueFrom};
-use search::Own;
-use search::Seen;
+pub use reads::lookup;
+pub use reads::read;
+pub use reads::value;
 use sets::LIMIT;
-use spec::AdvanceAnswer;
-use spec::AdvanceTurn;
 use spec::BeginAnswer;
 use spec::BeginTurn;
 use spec::Begun;
 use spec::FigureAnswer;
 use spec::FigureTurn;
-use spec::ReadAnswer;
-use spec::ReadTurn;
-use spec::Reading;
 use spec::Refusal;
 use spec::Store;
-
-// Cells are numbered 0 to 1,023.
-const CELLS: u32 = 1024;
+pub use steps::advance;
+pub use writes::write;
 
 // ---- set-up
 
@@ -121,124 +115,7 @@ pub fn begin(store: Store, rows: &[u8], commits: &[u8], client: u32) -> BeginTur
     }
 }
 
-// ---- Read
-
-fn no_read(store: Store, refusal: Refusal) -> ReadTurn
-    ensures { λ r. ⌜ r ≡ record { store = store; answer = ReadAnswer.Refused refusal } ⌝ }
-{
-    ReadTurn {
-        store,
-        answer: ReadAnswer::Refused(refusal),
-    }
-}
-
-// Read answers in which data row the value stands: `value` hands its sixteen bytes back.
-pub fn read(store: Store, rows: &[u8], commits: &[u8], client: u32, cell: u32) -> ReadTurn
-    ensures { λ r. ⌜ leaves (r .store) (now (rows .entry)) (now (commits .entry)) (readOf (r .answer)) ≡ after (read client cell) store (now (rows .entry)) (now (commits .entry)) ⌝ }
-{
-    if !record::fit(store, rows.len(), commits.len()) {
-        return no_read(store, Refusal::Unfit);
-    }
-    if LIMIT <= client {
-        return no_read(store, Refusal::NoClient);
-    }
-    if CELLS <= cell {
-        return no_read(store, Refusal::NoCell);
-    }
-    let k = client as usize;
-    let numbers = store.number;
-    let number = numbers[k];
-    if number == 0 {
-        return no_read(store, Refusal::NotOpen);
-    }
-    let stages = store.stage;
-    if stages[k] != 0 {
-        return no_read(store, Refusal::WrongStage);
-    }
-    let used = store.used as usize;
-    let entries = store.entries as usize;
-    let snapshots = store.snapshot;
-    let snapshot = snapshots[k];
-    let seen = search::look_for(rows, used, commits, entries, number, cell, snapshot);
-    match seen {
-        Seen::Version { at, number: _ } => ReadTurn {
-            store,
-            answer: ReadAnswer::Answered(Reading::Value(at)),
-        },
-        Seen::Nothing => ReadTurn {
-            store,
-            answer: ReadAnswer::Answered(Reading::Unwritten),
-        },
-    }
-}
-
-// The sixteen bytes of the value in data row at, as they stand in the buffer; none where the buffer has no such row.
-pub fn value<'a>(rows: &'a [u8], at: usize) -> &'a [u8]
-    ensures { λ r. ⌜ now r ≡ valueRead at (now (rows .entry)) ⌝ }
-{
-    if rows.len() / 24 <= at {
-        return &rows[0..0];
-    }
-    rows::value_at(rows, at)
-}
-
-// The sixteen bytes that a read finds, as they stand in the data buffer; none where it is refused or the cell is unwritten.
-pub fn lookup<'a>(store: Store, rows: &'a [u8], commits: &[u8], client: u32, cell: u32) -> &'a [u8]
-    ensures { λ r. ⌜ now r ≡ valueFrom (now (rows .entry)) (after (read client cell) store (now (rows .entry)) (now (commits .entry)) .answer) ⌝ }
-{
-    let turn = read(store, rows, commits, client, cell);
-    let answer = turn.answer;
-    match answer {
-        ReadAnswer::Answered(reading) => match reading {
-            Reading::Value(at) => value(rows, at),
-            Reading::Unwritten => &rows[0..0],
-        },
-        ReadAnswer::Refused(_) => &rows[0..0],
-    }
-}
-
-// ---- Write, Abandon, Trim
-
-// Write answers the free figure.
-pub fn write(
-    store: Store,
-    rows: &mut [u8],
-    commits: &[u8],
-    client: u32,
-    cell: u32,
-    value: &[u8],
-) -> FigureTurn
-    ensures { λ r. ⌜ leaves (r .store) (now (rows .exit)) (now (commits .entry)) (figureOf (r .answer)) ≡ after (write client cell (now (value .entry))) store (now (rows .entry)) (now (commits .entry)) ⌝ }
-{
-    if !record::fit(store, rows.len(), commits.len()) {
-        return record::no_figure(store, Refusal::Unfit);
-    }
-    if LIMIT <= client {
-        return record::no_figure(store, Refusal::NoClient);
-    }
-    if CELLS <= cell {
-        return record::no_figure(store, Refusal::NoCell);
-    }
-    if value.len() != 16 {
-        return record::no_figure(store, Refusal::WrongLength);
-    }
-    let k = client as usize;
-    let numbers = store.number;
-    let number = numbers[k];
-    if number == 0 {
-        return record::no_figure(store, Refusal::NotOpen);
-    }
-    let stages = store.stage;
-    if stages[k] != 0 {
-        return record::no_figure(store, Refusal::WrongStage);
-    }
-    let used = store.used as usize;
-    let own = search::own_row(rows, used, number, cell);
-    match own {
-        Own::Row(at) => writes::replace_row(store, rows, commits, at, value),
-        Own::Rows(n) => writes::add_row(store, rows, commits, client, cell, value, n),
-    }
-}
+// ---- Abandon, Trim
 
 // Abandon answers the free figure.
 pub fn abandon(store: Store, rows: &mut [u8], commits: &[u8], client: u32) -> FigureTurn
@@ -286,33 +163,4 @@ pub fn trim(store: Store, rows: &mut [u8], commits: &mut [u8]) -> FigureTurn
         store: next,
         answer: FigureAnswer::Answered(store.used - kept),
     }
-}
-
-// ---- Advance
-
-fn no_advance(store: Store, refusal: Refusal) -> AdvanceTurn
-    ensures { λ r. ⌜ r ≡ record { store = store; answer = AdvanceAnswer.Refused refusal } ⌝ }
-{
-    AdvanceTurn {
-        store,
-        answer: AdvanceAnswer::Refused(refusal),
-    }
-}
-
-// Advance takes the one step that the client's stage calls for.
-pub fn advance(store: Store, rows: &mut [u8], commits: &mut [u8], client: u32) -> AdvanceTurn
-    ensures { λ r. ⌜ leaves (r .store) (now (rows .exit)) (now (commits .exit)) (advanceOf (r .answer)) ≡ after (advance client) store (now (rows .entry)) (now (commits .entry)) ⌝ }
-{
-    if !record::fit(store, rows.len(), commits.len()) {
-        return no_advance(store, Refusal::Unfit);
-    }
-    if LIMIT <= client {
-        return no_advance(store, Refusal::NoClient);
-    }
-    let k = client as usize;
-    let numbers = store.number;
-    if numbers[k] == 0 {
-        return no_advance(store, Refusal::NotOpen);
-    }
-    steps::step(store, rows, commits, client)
 }

@@ -1,21 +1,55 @@
--- What a Write leaves once it is known whether the transaction has a row for the cell: one law for each way in which it ends.
+-- What a Write leaves, by the facts that its code has found: one law for each way in which it ends.
 -- Assumes nothing.
 use Prim.Native.Nat.{ℕ, _+_, _-_, _≤_, _<_}
-use mathlib.Core.Path.{_≡_, sym, _∙_}
+use mathlib.Core.Path.{_≡_, refl, sym, ap, _∙_}
 use mathlib.Core.Bool.{true, false}
 use mathlib.Core.List.{List, [], _∷_, _++_}
-use borrow.Author.Tests.{le-leb, lt-leb}
+use native.Mathlib.Omega.{arith}
+use borrow.Author.Tests.{le-leb, lt-leb, eq-eqb, ne-eqb}
 use lib.Dec.{leb}
 use lib.ListN.{length, getD, set, length-append, length-set}
+use Rattle.sets.specs.Set.{clients}
 use Rattle.rows.specs.Rows.{Row, rowsIn, laid, dataRow, withValue}
 use Rattle.rows.proofs.Rows.{length-rows}
 use Rattle.rows.proofs.Laid.{laid-same}
-use Rattle.search.specs.Share.{cellsOf}
+use Rattle.search.specs.declared.Found.{Found}
+use Rattle.search.specs.declared.Found.the-variants.{At, Missing}
+use Rattle.search.specs.declared.Own.{Own}
+use Rattle.search.specs.declared.Own.the-variants.{Row as OwnRow, Rows as OwnRows}
+use Rattle.search.specs.Look.{isOwn, find}
+use Rattle.search.specs.Share.{cellsOf, rowOrCount}
+use Rattle.search.proofs.Below.{find-below}
 use Rattle.spec.specs.declared.Store.{Store}
 use Rattle.spec.specs.Answers.{Answered, cellLimit, noFreeRow}
-use Rattle.spec.specs.Calls.{refuse, added, replaced}
+use Rattle.spec.specs.Calls.{refuse, added, replaced, stored, write}
 use Rattle.spec.specs.Bytes.{countersIn, clientsIn, recordOf, seen, storeOf, leaves, laidOut}
 use Rattle.spec.proofs.Ends.{ends}
+
+-- what was found in one pass is what the definition looks for
+pub own-row : (f : Found) (n : ℕ) (o : Own) (j : ℕ) → o ≡ rowOrCount f n → o ≡ OwnRow j → f ≡ At j
+own-row (At i) n o j e g = let q : i ≡ j = cc in ap At q
+own-row Missing n o j e g = let z : _≡_ {A = ℕ} 0 1 = cc in absurd (nothing z)
+  where
+    nothing : _≡_ {A = ℕ} 0 1 → ⊥
+    nothing z = omega arith
+
+pub own-rows : (f : Found) (n : ℕ) (o : Own) (m : ℕ) → o ≡ rowOrCount f n → o ≡ OwnRows m → (f ≡ Missing) × (m ≡ n)
+own-rows (At i) n o m e g = let z : _≡_ {A = ℕ} 0 1 = cc in absurd (nothing z)
+  where
+    nothing : _≡_ {A = ℕ} 0 1 → ⊥
+    nothing z = omega arith
+own-rows Missing n o m e g = (refl, cc)
+
+-- a row that was found is in use
+pub found-below : (t x n : ℕ) (d : List ℕ) (j : ℕ) → find (isOwn t x) 0 (rowsIn 24 n d) ≡ At j → j < n
+found-below t x n d j e = omega (arith, find-below (isOwn t x) 0 j (rowsIn 24 n d) e, length-rows 24 n d)
+
+module _ (s : Store) (d c : List ℕ) (k x : ℕ) (h : k < clients) (g : x < 1024) (n : getD (s .number) k 0 ≡ 0 → ⊥) (t : getD (s .stage) k 0 ≡ 0) where
+  pub write-stored : (v : List ℕ) (f : Found) → length v ≡ 16 → f ≡ find (isOwn (getD (s .number) k 0) x) 0 (rowsIn 24 (s .used) d)
+      → stored f k x v (seen s d c) ≡ write k x v (seen s d c)
+  unfolding write seen
+  write-stored v f l e =
+      rw (lt-leb clients k h, lt-leb 1024 x g, eq-eqb (length v) 16 l, ne-eqb (getD (s .number) k 0) 0 n, eq-eqb (getD (s .stage) k 0) 0 t, e)
 
 module _ (s : Store) (d c : List ℕ) where
   module _ (k x : ℕ) (v : List ℕ) where

@@ -1,4 +1,4 @@
-// What a Write does to the rows: a row added or a value replaced.
+// Write: a row added, or a value replaced where the transaction has a row for the cell.
 ghost use mathlib.Core.Path.{_≡_};
 ghost use mathlib.Core.Bool.{true};
 ghost use Prim.Native.Nat.{_*_, _≤_, _<_};
@@ -8,8 +8,11 @@ ghost use Rattle.sets.specs.Set.{clients};
 ghost use Rattle.rows.specs.Rows.{rowsIn, hasTag};
 ghost use Rattle.search.specs.Share.{count, cellsOf};
 ghost use Rattle.spec.specs.Answers.{figureOf};
-ghost use Rattle.spec.specs.Calls.{added, replaced};
-ghost use Rattle.spec.specs.Bytes.{seen, leaves, laidOut, fits};
+ghost use Rattle.spec.specs.Calls.{added, replaced, write};
+ghost use Rattle.spec.specs.Bytes.{seen, leaves, laidOut, fits, after};
+use search::Own;
+use sets::LIMIT;
+use spec::CELLS;
 use spec::FigureAnswer;
 use spec::FigureTurn;
 use spec::Refusal;
@@ -29,7 +32,7 @@ fn limit_reached(rows: &[u8], used: usize, number: u32, limit: u32, own: usize) 
 }
 
 // A new data row behind the last in use.
-pub fn add_row(
+fn add_row(
     store: Store,
     rows: &mut [u8],
     commits: &[u8],
@@ -65,13 +68,7 @@ pub fn add_row(
 }
 
 // Another value in a data row in use.
-pub fn replace_row(
-    store: Store,
-    rows: &mut [u8],
-    commits: &[u8],
-    at: usize,
-    value: &[u8],
-) -> FigureTurn
+fn replace_row(store: Store, rows: &mut [u8], commits: &[u8], at: usize, value: &[u8]) -> FigureTurn
     requires { ⌜ fits store (length (now rows)) (length (now commits)) ≡ true ⌝ }
     requires { ⌜ at < store .used ⌝ }
     requires { ⌜ length (now value) ≡ 16 ⌝ }
@@ -81,5 +78,46 @@ pub fn replace_row(
     FigureTurn {
         store,
         answer: FigureAnswer::Answered(store.rows - store.used),
+    }
+}
+
+// Write answers the free figure.
+pub fn write(
+    store: Store,
+    rows: &mut [u8],
+    commits: &[u8],
+    client: u32,
+    cell: u32,
+    value: &[u8],
+) -> FigureTurn
+    ensures { λ r. ⌜ leaves (r .store) (now (rows .exit)) (now (commits .entry)) (figureOf (r .answer)) ≡ after (write client cell (now (value .entry))) store (now (rows .entry)) (now (commits .entry)) ⌝ }
+{
+    if !record::fit(store, rows.len(), commits.len()) {
+        return record::no_figure(store, Refusal::Unfit);
+    }
+    if LIMIT <= client {
+        return record::no_figure(store, Refusal::NoClient);
+    }
+    if CELLS <= cell {
+        return record::no_figure(store, Refusal::NoCell);
+    }
+    if value.len() != 16 {
+        return record::no_figure(store, Refusal::WrongLength);
+    }
+    let k = client as usize;
+    let numbers = store.number;
+    let number = numbers[k];
+    if number == 0 {
+        return record::no_figure(store, Refusal::NotOpen);
+    }
+    let stages = store.stage;
+    if stages[k] != 0 {
+        return record::no_figure(store, Refusal::WrongStage);
+    }
+    let used = store.used as usize;
+    let own = search::own_row(rows, used, number, cell);
+    match own {
+        Own::Row(at) => replace_row(store, rows, commits, at, value),
+        Own::Rows(n) => add_row(store, rows, commits, client, cell, value, n),
     }
 }

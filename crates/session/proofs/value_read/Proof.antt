@@ -1,6 +1,6 @@
 -- Each arm is the definition's.
 -- Assumes nothing.
-use Rattle.store.specs.Reads.{valueFrom}
+use Rattle.reads.specs.Values.{valueFrom}
 use borrow.Author.Needs.{needs}
 use Rattle.session.proofs.value_read.Statement.{statement}
 use Rattle.session.proofs.value_read.Tie as tie

@@ -1,4 +1,4 @@
--- `store::advance`: the refusals in the definition's order, then the step.
+-- `steps::advance`: the refusals in the definition's order, then the step.
 -- Assumes nothing.
 use mathlib.Core.Path.{sym, _∙_}
 use native.Mathlib.Omega.{arith}
@@ -9,26 +9,26 @@ use Rattle.sets.specs.Set.{clients}
 use Rattle.spec.specs.Steps.{advance}
 use Rattle.spec.specs.Bytes.{seen}
 use Rattle.spec.proofs.Ends.{ends-unfit, goes, refuses}
-use Rattle.store.proofs.advance.Statement.{statement}
-use Rattle.store.proofs.advance.Tie as tie
+use Rattle.steps.proofs.advance.Statement.{statement}
+use Rattle.steps.proofs.advance.Tie as tie
 
 fit-requires : tie.Need-fit-requires
 fit-requires c κs = search needs
 
-no-advance-requires : tie.Need-no-advance-requires
-no-advance-requires c κs = search needs
+refuse-requires : tie.Need-refuse-requires
+refuse-requires c κs = search needs
 
 returns : tie.Need-returns
-returns c = rw (c .no-advance .ensures) (ends-unfit _ _ _ _ (sym (c .before .before .fit .ensures) ∙ not-true _ (c .before .if1 .taken)))
+returns c = rw (c .refuse .ensures) (ends-unfit _ _ _ _ (sym (c .before .before .fit .ensures) ∙ not-true _ (c .before .if1 .taken)))
 
-no-advance-requires-2 : tie.Need-no-advance-requires-2
-no-advance-requires-2 c κs = search needs
+refuse-requires-2 : tie.Need-refuse-requires-2
+refuse-requires-2 c κs = search needs
 
 returns-2 : tie.Need-returns-2
 unfolding advance
 returns-2 c =
     let a = c .before .before .before .before .before .before .args in
-    rw (c .no-advance2 .ensures) (refuses _ _ _ _ _ (sym (c .before .before .before .fit .ensures) ∙ not-false _ (c .before .before .if1 .left)) (rw (le-leb clients (a .client) (omega arith))))
+    rw (c .refuse2 .ensures) (refuses _ _ _ _ _ (sym (c .before .before .before .fit .ensures) ∙ not-false _ (c .before .before .if1 .left)) (rw (le-leb clients (a .client) (omega arith))))
 
 mul-if3 : tie.Need-mul-if3
 mul-if3 c = search needs
@@ -36,15 +36,15 @@ mul-if3 c = search needs
 array-read-if3 : tie.Need-array-read-if3
 array-read-if3 c = search needs
 
-no-advance-requires-3 : tie.Need-no-advance-requires-3
-no-advance-requires-3 c κs = search needs
+refuse-requires-3 : tie.Need-refuse-requires-3
+refuse-requires-3 c κs = search needs
 
 returns-3 : tie.Need-returns-3
 unfolding advance seen
 returns-3 c =
     let a = c .before .before .before .before .before .before .before .before .args in
     let s = a .store in
-    rw (c .no-advance3 .ensures) (refuses _ _ _ _ _ (sym (c .before .before .before .before .before .fit .ensures) ∙ not-false _ (c .before .before .before .before .if1 .left)) (rw (lt-leb clients (a .client) (omega arith), eq-eqb (getD (s .number) (a .client) 0) 0 (omega arith))))
+    rw (c .refuse3 .ensures) (refuses _ _ _ _ _ (sym (c .before .before .before .before .before .fit .ensures) ∙ not-false _ (c .before .before .before .before .if1 .left)) (rw (lt-leb clients (a .client) (omega arith), eq-eqb (getD (s .number) (a .client) 0) 0 (omega arith))))
 
 step-requires : tie.Need-step-requires
 step-requires c κs = (omega arith, (sym (c .before .before .before .before .before .before .fit .ensures) ∙ not-false _ (c .before .before .before .before .before .if1 .left)))
@@ -67,13 +67,13 @@ advance-spec =
     tie.close
     (tie.spec
     fit-requires
-    no-advance-requires
+    refuse-requires
     returns
-    no-advance-requires-2
+    refuse-requires-2
     returns-2
     mul-if3
     array-read-if3
-    no-advance-requires-3
+    refuse-requires-3
     returns-3
     step-requires
     same-length

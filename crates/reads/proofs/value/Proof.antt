@@ -1,11 +1,11 @@
--- `store::value`: the part of the buffer in which the value stands.
+-- `reads::value`: the part of the buffer in which the value stands.
 -- Assumes nothing.
 use native.Mathlib.Omega.{arith}
 use borrow.Author.Needs.{needs}
 use borrow.Author.Tests.{lt-leb, le-leb}
-use Rattle.store.specs.Reads.{valueRead}
-use Rattle.store.proofs.value.Statement.{statement}
-use Rattle.store.proofs.value.Tie as tie
+use Rattle.reads.specs.Values.{valueRead}
+use Rattle.reads.proofs.value.Statement.{statement}
+use Rattle.reads.proofs.value.Tie as tie
 
 sub-result : tie.Need-sub-result
 sub-result c = search needs

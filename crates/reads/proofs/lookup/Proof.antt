@@ -1,10 +1,10 @@
--- `store::lookup`: the value that the answer names.
+-- `reads::lookup`: the value that the answer names.
 -- Assumes nothing.
 use mathlib.Core.Path.{ap}
 use borrow.Author.Needs.{needs}
-use Rattle.store.specs.Reads.{valueFrom}
-use Rattle.store.proofs.lookup.Statement.{statement}
-use Rattle.store.proofs.lookup.Tie as tie
+use Rattle.reads.specs.Values.{valueFrom}
+use Rattle.reads.proofs.lookup.Statement.{statement}
+use Rattle.reads.proofs.lookup.Tie as tie
 
 read-requires : tie.Need-read-requires
 read-requires c κs = search needs

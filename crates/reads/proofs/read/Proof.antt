@@ -1,4 +1,4 @@
--- `store::read`: the refusals in the definition's order, then the row that was found.
+-- `reads::read`: the refusals in the definition's order, then the row that was found.
 -- Assumes nothing.
 use mathlib.Core.Path.{sym, _∙_}
 use native.Mathlib.Omega.{arith}
@@ -9,9 +9,9 @@ use Rattle.sets.specs.Set.{clients}
 use Rattle.spec.specs.Calls.{read}
 use Rattle.spec.specs.Bytes.{seen}
 use Rattle.spec.proofs.Ends.{fit-of, ends-unfit, refuses}
-use Rattle.store.proofs.Outcomes.{read-found}
-use Rattle.store.proofs.read.Statement.{statement}
-use Rattle.store.proofs.read.Tie as tie
+use Rattle.reads.proofs.Outcomes.{read-found}
+use Rattle.reads.proofs.read.Statement.{statement}
+use Rattle.reads.proofs.read.Tie as tie
 
 fit-requires : tie.Need-fit-requires
 fit-requires c κs = search needs

@@ -1,4 +1,4 @@
--- `store::write`: the refusals in the definition's order, then the row.
+-- `writes::write`: the refusals in the definition's order, then the row.
 -- Assumes nothing.
 use mathlib.Core.Path.{sym, ap, _∙_}
 use native.Mathlib.Omega.{arith}
@@ -11,10 +11,10 @@ use Rattle.search.specs.Look.{isOwn, find}
 use Rattle.spec.specs.Calls.{write}
 use Rattle.spec.specs.Bytes.{seen, laidOut}
 use Rattle.spec.proofs.Ends.{fit-of, ends-unfit, goes, refuses}
-use Rattle.store.proofs.Outcomes.{own-row, own-rows, write-stored, found-below}
+use Rattle.writes.proofs.Outcomes.{own-row, own-rows, write-stored, found-below}
 use Rattle.search.specs.declared.Found.{Found}
-use Rattle.store.proofs.write.Statement.{statement}
-use Rattle.store.proofs.write.Tie as tie
+use Rattle.writes.proofs.write.Statement.{statement}
+use Rattle.writes.proofs.write.Tie as tie
 
 fit-requires : tie.Need-fit-requires
 fit-requires c κs = search needs
