@@ -7,7 +7,7 @@ ghost use lib.ListN.{length, getD};
 ghost use Rattle.sets.specs.Set.{clients};
 ghost use Rattle.spec.specs.Answers.{Answer, advanceOf};
 ghost use Rattle.steps.specs.Removed.{Removed};
-ghost use Rattle.spec.specs.Steps.{goOn, enter, takeRequest, listRequests, looked, lookRequests, check, takeCommit, listCommits, lookCommits, addCommit, leaveCommits, leaveRequests, steps, noStep, advance};
+ghost use Rattle.spec.specs.Steps.{requests as requestQueue, commits as commitQueue, goOn, enter, takeRequest, listRequests, looked, lookRequests, check, takeCommit, listCommits, lookCommits, addCommit, leaveCommits, leaveRequests, steps, noStep, advance};
 ghost use Rattle.spec.specs.Bytes.{seen, leaves, laidOut, fits, after};
 use search::Number;
 use sets::LIMIT;
@@ -18,6 +18,28 @@ use spec::Progress;
 use spec::Queue;
 use spec::Refusal;
 use spec::Store;
+
+// The request queue: entered at stage 0, the number noted at 2, left at 13.
+fn request_queue() -> Queue
+    ensures { λ r. ⌜ r ≡ requestQueue ⌝ }
+{
+    Queue {
+        first: 1,
+        noted: 3,
+        last: 13,
+    }
+}
+
+// The commit queue: entered at stage 6, the number noted at 8, left at 12.
+fn commit_queue() -> Queue
+    ensures { λ r. ⌜ r ≡ commitQueue ⌝ }
+{
+    Queue {
+        first: 7,
+        noted: 9,
+        last: 12,
+    }
+}
 
 fn refuse(store: Store, refusal: Refusal) -> AdvanceTurn
     ensures { λ r. ⌜ r ≡ record { store = store; answer = AdvanceAnswer.Refused refusal } ⌝ }
@@ -84,11 +106,7 @@ fn list_requests(store: Store, rows: &[u8], client: u32) -> AdvanceTurn
     requires { ⌜ 24 * store .used ≤ length (now rows) ⌝ }
     ensures { λ r. ⌜ ((c : List ℕ) → leaves (r .store) (now (rows .entry)) c (advanceOf (r .answer)) ≡ laidOut store (now (rows .entry)) c (listRequests client (seen store (now (rows .entry)) c))) ⌝ }
 {
-    let queue = Queue {
-        first: 1,
-        noted: 3,
-        last: 13,
-    };
+    let queue = request_queue();
     let k = client as usize;
     let numbers = store.number;
     let number = numbers[k];
@@ -121,11 +139,7 @@ fn look_requests(store: Store, client: u32) -> AdvanceTurn
     requires { ⌜ client < clients ⌝ }
     ensures { λ r. ⌜ ((d c : List ℕ) → leaves (r .store) d c (advanceOf (r .answer)) ≡ laidOut store d c (lookRequests client (seen store d c))) ⌝ }
 {
-    let queue = Queue {
-        first: 1,
-        noted: 3,
-        last: 13,
-    };
+    let queue = request_queue();
     let k = client as usize;
     let stages = store.stage;
     let requests = store.request;
@@ -202,11 +216,7 @@ fn list_commits(store: Store, client: u32) -> AdvanceTurn
     requires { ⌜ client < clients ⌝ }
     ensures { λ r. ⌜ ((d c : List ℕ) → leaves (r .store) d c (advanceOf (r .answer)) ≡ laidOut store d c (listCommits client (seen store d c))) ⌝ }
 {
-    let queue = Queue {
-        first: 7,
-        noted: 9,
-        last: 12,
-    };
+    let queue = commit_queue();
     let k = client as usize;
     let stages = store.stage;
     let mut next = store;
@@ -221,11 +231,7 @@ fn look_commits(store: Store, client: u32) -> AdvanceTurn
     requires { ⌜ client < clients ⌝ }
     ensures { λ r. ⌜ ((d c : List ℕ) → leaves (r .store) d c (advanceOf (r .answer)) ≡ laidOut store d c (lookCommits client (seen store d c))) ⌝ }
 {
-    let queue = Queue {
-        first: 7,
-        noted: 9,
-        last: 12,
-    };
+    let queue = commit_queue();
     let k = client as usize;
     let stages = store.stage;
     let commits = store.commit;

@@ -6,6 +6,9 @@ use Rattle.spec.specs.Steps.{others, listCommits}
 use Rattle.steps.proofs.list_commits.Statement.{statement}
 use Rattle.steps.proofs.list_commits.Tie as tie
 
+commit-queue-requires : tie.Need-commit-queue-requires
+commit-queue-requires c κs = search needs
+
 others-requires : tie.Need-others-requires
 others-requires c κs = search needs
 
@@ -20,8 +23,10 @@ go-on-requires c κs = search needs
 
 returns : tie.Need-returns
 unfolding listCommits others seen laidOut
-returns c = λ d e. rw (← c .before .others .ensures) (c .go-on .ensures d e)
+returns c =
+    let queue = c .before .before .before .before .before .commit-queue in
+    λ d e. rw (← (rw (queue .ensures) at (c .before .others .ensures))) (c .go-on .ensures d e)
 
 pub list-commits-spec : {M : Type 1} → statement M
 list-commits-spec =
-    tie.close (tie.spec others-requires mul-lists array-write-lists go-on-requires returns)
+    tie.close (tie.spec commit-queue-requires others-requires mul-lists array-write-lists go-on-requires returns)

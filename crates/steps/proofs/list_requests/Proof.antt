@@ -6,6 +6,9 @@ use Rattle.spec.specs.Steps.{listRequests, others}
 use Rattle.steps.proofs.list_requests.Statement.{statement}
 use Rattle.steps.proofs.list_requests.Tie as tie
 
+request-queue-requires : tie.Need-request-queue-requires
+request-queue-requires c κs = search needs
+
 mul-number : tie.Need-mul-number
 mul-number c = search needs
 
@@ -33,13 +36,15 @@ go-on-requires c κs = search needs
 returns : tie.Need-returns
 unfolding listRequests others seen laidOut
 returns c =
+    let queue = c .before .before .before .before .before .before .before .before .before .request-queue in
     let queued = c .before .before .before .before .others in
-    λ e. rw (← queued .ensures, ← c .before .sharers .ensures) (c .go-on .ensures _ e)
+    λ e. rw (← (rw (queue .ensures) at (queued .ensures)), ← c .before .sharers .ensures) (c .go-on .ensures _ e)
 
 pub list-requests-spec : {M : Type 1} → statement M
 list-requests-spec =
     tie.close
     (tie.spec
+    request-queue-requires
     mul-number
     array-read-number
     cast-used

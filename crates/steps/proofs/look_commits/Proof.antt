@@ -6,6 +6,9 @@ use Rattle.spec.specs.Steps.{lookCommits}
 use Rattle.steps.proofs.look_commits.Statement.{statement}
 use Rattle.steps.proofs.look_commits.Tie as tie
 
+commit-queue-requires : tie.Need-commit-queue-requires
+commit-queue-requires c κs = search needs
+
 mul-own : tie.Need-mul-own
 mul-own c = search needs
 
@@ -32,12 +35,15 @@ looked-requires c κs = search needs
 
 returns : tie.Need-returns
 unfolding lookCommits seen laidOut
-returns c = λ d e. rw (← c .before .look .ensures) (c .looked .ensures d e)
+returns c =
+    let queue = c .before .before .before .before .before .before .before .commit-queue in
+    λ d e. rw (← (rw (queue .ensures) at (c .before .look .ensures))) (c .looked .ensures d e)
 
 pub look-commits-spec : {M : Type 1} → statement M
 look-commits-spec =
     tie.close
     (tie.spec
+    commit-queue-requires
     mul-own
     array-read-own
     mul-before

@@ -6,6 +6,9 @@ use Rattle.spec.specs.Steps.{lookRequests}
 use Rattle.steps.proofs.look_requests.Statement.{statement}
 use Rattle.steps.proofs.look_requests.Tie as tie
 
+request-queue-requires : tie.Need-request-queue-requires
+request-queue-requires c κs = search needs
+
 mul-own : tie.Need-mul-own
 mul-own c = search needs
 
@@ -32,12 +35,15 @@ looked-requires c κs = search needs
 
 returns : tie.Need-returns
 unfolding lookRequests seen laidOut
-returns c = λ d e. rw (← c .before .look .ensures) (c .looked .ensures d e)
+returns c =
+    let queue = c .before .before .before .before .before .before .before .request-queue in
+    λ d e. rw (← (rw (queue .ensures) at (c .before .look .ensures))) (c .looked .ensures d e)
 
 pub look-requests-spec : {M : Type 1} → statement M
 look-requests-spec =
     tie.close
     (tie.spec
+    request-queue-requires
     mul-own
     array-read-own
     mul-before
