@@ -123,9 +123,9 @@ pub member-remove : (s k j : ℕ) → member (remove s k) j ≡ (if eqb j k then
 unfolding remove member
 member-remove s k j = go (member s k) refl
   where
-    go : (b : Bool) → member s k ≡ b → member (if b then (s - 2 ^ k) else s) j ≡ (if eqb j k then false else (member s j))
-    go true e = rw (sub-bit s k (member-true s k e) j) (choice-eqb (eqb j k) 0 (bit s j))
-    go false e = choice-same (eqb j k) false (member s j) (λ q. rw (eqb-true j k q) (sym e))
+    go : (b : Bool) → member s k ≡ b → member (remove s k) j ≡ (if eqb j k then false else (member s j))
+    go true e = rw (e, sub-bit s k (member-true s k e) j) (choice-eqb (eqb j k) 0 (bit s j))
+    go false e = rw e (choice-same (eqb j k) false (member s j) (λ q. rw (eqb-true j k q) (sym e)))
 
 -- a removal leaves no larger number
 pub remove-le : (s k : ℕ) → remove s k ≤ s

@@ -1,4 +1,5 @@
 -- `search::above_of` goes by the cases of its definition.
+use native.Mathlib.Omega.{arith}
 use borrow.Author.Needs.{needs}
 use borrow.Author.Tests.{lt-ltb, le-ltb}
 use Rattle.search.specs.Numbers.{above}
@@ -7,11 +8,15 @@ use Rattle.search.proofs.above_of.Tie as tie
 
 returns : tie.Need-returns
 unfolding above
-returns c = rw (c .before .before .number .given .1, lt-ltb _ _ (c .if1 .taken))
+returns c =
+    let told = c .before .before .number .given in
+    rw (told .1, lt-ltb (c .before .before .before .before .args .snapshot) (told .0 .0) (omega (arith, c .if1 .taken)))
 
 returns-2 : tie.Need-returns-2
 unfolding above
-returns-2 c = rw (c .before .before .number .given .1, le-ltb _ _ (c .if1 .left))
+returns-2 c =
+    let told = c .before .before .number .given in
+    rw (told .1, le-ltb (c .before .before .before .before .args .snapshot) (told .0 .0) (omega (arith, c .if1 .left)))
 
 returns-3 : tie.Need-returns-3
 unfolding above

@@ -1,4 +1,5 @@
 -- `search::lesser_than` goes by the cases of its definition.
+use native.Mathlib.Omega.{arith}
 use borrow.Author.Needs.{needs}
 use borrow.Author.Tests.{lt-ltb, le-ltb}
 use Rattle.search.specs.Numbers.{lesser}
@@ -7,11 +8,15 @@ use Rattle.search.proofs.lesser_than.Tie as tie
 
 returns : tie.Need-returns
 unfolding lesser
-returns c = rw (c .before .before .other .given .1, lt-ltb _ _ (c .if1 .taken))
+returns c =
+    let told = c .before .before .other .given in
+    rw (told .1, lt-ltb (told .0 .0) (c .before .before .before .before .args .m) (omega (arith, c .if1 .taken)))
 
 returns-2 : tie.Need-returns-2
 unfolding lesser
-returns-2 c = rw (c .before .before .other .given .1, le-ltb _ _ (c .if1 .left))
+returns-2 c =
+    let told = c .before .before .other .given in
+    rw (told .1, le-ltb (told .0 .0) (c .before .before .before .before .args .m) (omega (arith, c .if1 .left)))
 
 returns-3 : tie.Need-returns-3
 unfolding lesser

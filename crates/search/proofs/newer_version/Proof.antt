@@ -1,4 +1,5 @@
 -- `search::newer_version` goes by the cases of its definition.
+use native.Mathlib.Omega.{arith}
 use borrow.Author.Needs.{needs}
 use borrow.Author.Tests.{lt-ltb, le-ltb}
 use Rattle.search.specs.Look.{newer}
@@ -7,11 +8,15 @@ use Rattle.search.proofs.newer_version.Tie as tie
 
 returns : tie.Need-returns
 unfolding newer
-returns c = rw (c .before .before .best .given .1, lt-ltb _ _ (c .if1 .taken))
+returns c =
+    let told = c .before .before .best .given in
+    rw (told .1, lt-ltb (told .0 .1 .0) (c .before .before .before .before .args .n) (omega (arith, c .if1 .taken)))
 
 returns-2 : tie.Need-returns-2
 unfolding newer
-returns-2 c = rw (c .before .before .best .given .1, le-ltb _ _ (c .if1 .left))
+returns-2 c =
+    let told = c .before .before .best .given in
+    rw (told .1, le-ltb (told .0 .1 .0) (c .before .before .before .before .args .n) (omega (arith, c .if1 .left)))
 
 returns-3 : tie.Need-returns-3
 unfolding newer

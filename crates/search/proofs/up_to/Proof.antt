@@ -1,4 +1,5 @@
 -- `search::up_to` goes by the cases of its definition.
+use native.Mathlib.Omega.{arith}
 use borrow.Author.Needs.{needs}
 use borrow.Author.Tests.{le-leb, lt-leb}
 use Rattle.search.specs.Numbers.{upTo}
@@ -7,11 +8,15 @@ use Rattle.search.proofs.up_to.Tie as tie
 
 returns : tie.Need-returns
 unfolding upTo
-returns c = rw (c .before .before .number .given .1, le-leb _ _ (c .if1 .taken))
+returns c =
+    let told = c .before .before .number .given in
+    rw (told .1, le-leb (told .0 .0) (c .before .before .before .before .args .snapshot) (omega (arith, c .if1 .taken)))
 
 returns-2 : tie.Need-returns-2
 unfolding upTo
-returns-2 c = rw (c .before .before .number .given .1, lt-leb _ _ (c .if1 .left))
+returns-2 c =
+    let told = c .before .before .number .given in
+    rw (told .1, lt-leb (told .0 .0) (c .before .before .before .before .args .snapshot) (omega (arith, c .if1 .left)))
 
 returns-3 : tie.Need-returns-3
 unfolding upTo

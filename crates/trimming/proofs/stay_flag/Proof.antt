@@ -3,6 +3,7 @@ use mathlib.Core.Path.{sym, _∙_}
 use borrow.Author.Tests.{lt-ltb, le-ltb}
 use borrow.Author.Needs.{needs}
 use native.Mathlib.Omega.{arith}
+use lib.ListN.{getD}
 use Rattle.rows.specs.Rows.{rowAt, rowsIn}
 use Rattle.trimming.proofs.Newest.{stays-above, stays-up-to, stays-newest}
 use Rattle.trimming.proofs.stay_flag.Statement.{statement}
@@ -22,7 +23,7 @@ returns-2 c = λ cs numbers newest.
     rw (
       stays-newest (a .low) (rowsIn 24 (a .used) (a .rows .now)) cs (rowAt 24 (a .i) (a .rows .now)) _ (numbers .each (a .i) (start .pre .1 .1)) (cell .result) (cell .ensures)
           (omega (arith, start .fits .low)) (c .before .before .before .before .if1 .left) (a .newest .now) newest (c .before .before .if2 .taken),
-      lt-ltb _ _ (c .if3 .taken),
+      lt-ltb (getD (a .numbers .now) (a .i) 0) (getD (a .newest .now) (cell .result) 0) (omega (arith, c .if3 .taken)),
     )
 
 returns-3 : tie.Need-returns-3
@@ -33,7 +34,7 @@ returns-3 c = λ cs numbers newest.
     rw (
       stays-newest (a .low) (rowsIn 24 (a .used) (a .rows .now)) cs (rowAt 24 (a .i) (a .rows .now)) _ (numbers .each (a .i) (start .pre .1 .1)) (cell .result) (cell .ensures)
           (omega (arith, start .fits .low)) (c .before .before .before .before .if1 .left) (a .newest .now) newest (c .before .before .if2 .taken),
-      le-ltb _ _ (c .if3 .left),
+      le-ltb (getD (a .numbers .now) (a .i) 0) (getD (a .newest .now) (cell .result) 0) (omega (arith, c .if3 .left)),
     )
 
 returns-4 : tie.Need-returns-4
