@@ -36,7 +36,7 @@ use Rattle.spec.proofs.View.{dataRowOf, commitRowOf, clientOf, clientsA
 use Rattle.spec.proofs.Searches.{has-row, shares-view, asNumber, numberIn, check-view}
 use Rattle.spec.proofs.Listings.{count-view, size-none, size-zero, phased-requests, phased-commits, others-view, some-view, look-view}
 use Rattle.spec.proofs.Does.{seenAs, Does, does, does-if, not-open, opens}
-use Rattle.spec.proofs.Simple.{removed-view}
+use Rattle.spec.proofs.Simple.{number-of, removed-view}
 
 -- what the steps ask of the image: numbers of 32 bits, a number to be taken, and a free committed row
 pub record Ready (i : Image) : Type 0 where
@@ -65,10 +65,6 @@ commit-row n t h g = λ i. record { number = commitNumber-commitRow n t h i; tag
 commit-of : (c : Clients) (k : ℕ) → clientsAs c k .commit ≡ getD (c .commit) k 0
 unfolding clientsAs clientOf
 commit-of c k = refl
-
-number-of : (c : Clients) (k : ℕ) → clientsAs c k .number ≡ getD (c .number) k 0
-unfolding clientsAs clientOf
-number-of c k = refl
 
 module _ (i : Image) (ready : Ready i) (k : ℕ) (h : k < clients) where
   goOn-view : (g : ℕ) → seenAs (Advance k) (st.goOn g k i) ≡ m.step-to (view i) k g

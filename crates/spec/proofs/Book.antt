@@ -54,6 +54,9 @@ pub record Top (S : ℕ) (book : List Entry) (x : ℕ) (v : Value) : Type 0 wher
   pub puts : entry .puts x ≡ some v
   pub last : (d : Entry) → In d book → d .number ≤ S → IsSome (d .puts x) → d .number ≤ entry .number
 
+nothing : {o : Option Value} → o ≡ none → IsSome o → ⊥
+nothing z i = rw z at i
+
 pub upTo-some : (S : ℕ) (book : List Entry) → Rising book → (x : ℕ) (v : Value) → upTo S book x ≡ some v → Top S book x v
 unfolding upTo
 upTo-some S [] h x v q = absurd (none-some refl q)
@@ -70,9 +73,6 @@ upTo-some S (e ∷ l) h x v q =
     }))
     (λ gt. later (upTo-some S l (h .1) x v (sym (if-neg (decLe (e .number) S) gt _ _) ∙ q)) (λ k i. gt k))
   where
-    nothing : {o : Option Value} → o ≡ none → IsSome o → ⊥
-    nothing z i = rw z at i
-
     later : Top S l x v → (e .number ≤ S → IsSome (e .puts x) → ⊥) → Top S (e ∷ l) x v
     later t n = record {
       entry = t .entry;
@@ -91,9 +91,6 @@ upTo-none S (e ∷ l) x q d i k j =
     (λ z. in-case i (λ y. nothing z (subst (λ (z : Entry). IsSome (z .puts x)) y j)) (λ y. upTo-none S l x (rw z at (sym (if-pos (decLe (e .number) S) le _ _) ∙ q)) d y k j))
     (λ w z. none-some (rw z at (sym (if-pos (decLe (e .number) S) le _ _) ∙ q)) refl))
     (λ gt. in-case i (λ y. gt (subst (λ (z : Entry). z .number ≤ S) y k)) (λ y. upTo-none S l x (sym (if-neg (decLe (e .number) S) gt _ _) ∙ q) d y k j))
-  where
-    nothing : {o : Option Value} → o ≡ none → IsSome o → ⊥
-    nothing z i = rw z at i
 
 -- Rows found.
 pub is-some : {A : Type 0} (o : Option A) → IsSome o → (v : A) × (o ≡ some v)

@@ -81,13 +81,13 @@ read-does i k x =
 
 -- ---- Abandon
 
-number-view : (c : Clients) (k : ℕ) → clientsAs c k .number ≡ getD (c .number) k 0
+pub number-of : (c : Clients) (k : ℕ) → clientsAs c k .number ≡ getD (c .number) k 0
 unfolding clientsAs clientOf
-number-view c k = refl
+number-of c k = refl
 
 pub removed-view : (i : Image) (k : ℕ) → Tidy (i .clients) → k < clients → view (removed k i) ≡ m.removed (view i) k
 unfolding removed view
-removed-view i k z h = rw (closed-put (i .clients) z k h, number-view (i .clients) k, removed-rows (getD (i .clients .number) k 0) (i .dataRows))
+removed-view i k z h = rw (closed-put (i .clients) z k h, number-of (i .clients) k, removed-rows (getD (i .clients .number) k 0) (i .dataRows))
 
 pub abandon-does : (i : Image) (k : ℕ) → Wellformed i → Does i (Abandon k) (abandon k i)
 unfolding abandon

@@ -25,19 +25,16 @@ use Rattle.spec.specs.Calls.{refuse, added, replaced, stored, write}
 use Rattle.spec.specs.Bytes.{countersIn, clientsIn, recordOf, seen, storeOf, leaves, laidOut}
 use Rattle.spec.proofs.Ends.{ends}
 
+nothing : _≡_ {A = ℕ} 0 1 → ⊥
+nothing z = omega arith
+
 -- what was found in one pass is what the definition looks for
 pub own-row : (f : Found) (n : ℕ) (o : Own) (j : ℕ) → o ≡ rowOrCount f n → o ≡ OwnRow j → f ≡ At j
 own-row (At i) n o j e g = let q : i ≡ j = cc in ap At q
 own-row Missing n o j e g = let z : _≡_ {A = ℕ} 0 1 = cc in absurd (nothing z)
-  where
-    nothing : _≡_ {A = ℕ} 0 1 → ⊥
-    nothing z = omega arith
 
 pub own-rows : (f : Found) (n : ℕ) (o : Own) (m : ℕ) → o ≡ rowOrCount f n → o ≡ OwnRows m → (f ≡ Missing) × (m ≡ n)
 own-rows (At i) n o m e g = let z : _≡_ {A = ℕ} 0 1 = cc in absurd (nothing z)
-  where
-    nothing : _≡_ {A = ℕ} 0 1 → ⊥
-    nothing z = omega arith
 own-rows Missing n o m e g = (refl, cc)
 
 -- a row that was found is in use
