@@ -8,36 +8,29 @@ use std::fs;
 const LINES: usize = 40_000;
 const SEEDS: std::ops::RangeInclusive<u64> = 1..=3;
 
-#[test]
-fn house_cases_and_scripts_of_the_model() {
-    let folder = concat!(env!("CARGO_MANIFEST_DIR"), "/../model/tests/house");
+/// Every script of a folder, by its files' extension, prints what stands beside it; how many there are.
+fn scripts(folder: &str, extension: &str) -> usize {
     let mut seen = 0;
     for entry in fs::read_dir(folder).unwrap() {
         let path = entry.unwrap().path();
-        if path.extension().is_some_and(|e| e == "in") {
-            let input = fs::read(&path).unwrap();
-            let wanted = fs::read(path.with_extension("out")).unwrap();
-            assert_eq!(output(&input), wanted, "{}", path.display());
-            seen += 1;
-        }
-    }
-    assert!(seen >= 12);
-}
-
-/// The examples of the README print what stands beside them (made by the reference model).
-#[test]
-fn examples() {
-    let folder = concat!(env!("CARGO_MANIFEST_DIR"), "/../../examples");
-    let mut seen = 0;
-    for entry in fs::read_dir(folder).unwrap() {
-        let path = entry.unwrap().path();
-        if path.extension().is_some_and(|e| e == "txt") {
+        if path.extension().is_some_and(|e| e == extension) {
             let wanted = fs::read(path.with_extension("out")).unwrap();
             assert_eq!(output(&fs::read(&path).unwrap()), wanted, "{}", path.display());
             seen += 1;
         }
     }
-    assert!(seen >= 4);
+    seen
+}
+
+#[test]
+fn house_cases_and_scripts_of_the_model() {
+    assert!(scripts(concat!(env!("CARGO_MANIFEST_DIR"), "/../model/tests/house"), "in") >= 12);
+}
+
+/// The examples of the README print what stands beside them (made by the reference model).
+#[test]
+fn examples() {
+    assert!(scripts(concat!(env!("CARGO_MANIFEST_DIR"), "/../../examples"), "txt") >= 4);
 }
 
 #[test]
