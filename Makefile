@@ -5,12 +5,15 @@
 #   make soak LINES=.. SEEDS=..   longer generated runs against the model
 #   make bench                    instructions and times against hand-written Rust (needs valgrind)
 #   make peers                    the same work on SQLite and LMDB, where their packages are installed
+#   make outputs                  what the model prints for the examples and for the stored run, written anew beside them
+# tests/tickets lists the tickets of document 02 that have landed: tests, benchmark and stored outputs go by it.
 EXAMPLE ?= examples/first.txt
 LINES ?= 400000
 SEEDS ?= 8
 CARGO = cargo --quiet
+TICKETS = $(shell cat tests/tickets)
 
-.PHONY: run test build soak bench peers
+.PHONY: run test build soak bench peers outputs
 
 run: build
 	target/bin/step <$(EXAMPLE)
@@ -28,5 +31,10 @@ bench: build
 	tests/bench.sh
 
 peers:
-	@if pkg-config --exists sqlite3 && [ -e /usr/include/lmdb.h ]; then bench/peers.sh; \
+	@if pkg-config --exists sqlite3 && [ -e /usr/include/lmdb.h ]; then bench/peers.sh --tickets $(TICKETS); \
 	else echo "SQLite's or LMDB's development package is not installed: nothing to compare with."; fi
+
+outputs:
+	$(CARGO) build --release --offline --manifest-path tests/model/Cargo.toml
+	for input in examples/*.txt; do tests/model/target/release/model-step --tickets $(TICKETS) <$$input >$${input%.txt}.out; done
+	tests/model/target/release/model-step --tickets $(TICKETS) <crates/step/stdin >crates/step/stdout

@@ -98,7 +98,7 @@ module _ (k x : ℕ) (between rest : List Call) (u v : Option Value) where
       → tells (Read k x) (afterRun (before ++ (Read k x ∷ between)) m) ≡ Answered v → u ≡ v
   steady-from [] n w t m r e c f =
       let s : RightRead t k x (Answered u) = subst (RightRead t k x) e (r .0) in
-      again k x u between rest n w _ _ (r .1) c (subst (λ (y : Table). Shows k x u (y .clients)) (sym (told-read k x (tells (Read k x) m) t)) s) v f
+      again k x u between rest n w _ _ (r .1) c (subst (λ (y : Table). Shows k x u (y .clients)) (sym (told-read k x (tells (Read k x) m) t)) (s .0, s .1, s .2)) v f
   steady-from (q ∷ before) n w t m r e c f = steady-from before n _ _ _ (r .1) e c f
 
 pub steady-run : (qs : List Call) (n w : ℕ) (t : Table) (m : Memory) → RightRun n w t m qs → Steady m qs

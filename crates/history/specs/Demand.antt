@@ -89,7 +89,8 @@ pub record Demand3 (d c : List ℕ) (w l : ℕ) (qs : List Call) : Type 0 where
   pub rising : Rising (tableAfter qs (memoryOf (setUp d c w l)) blank .book)
   -- "the cells with a value in the table: those are the cells ever committed"
   pub valued : (x : ℕ) → Valued x (tableAfter qs (memoryOf (setUp d c w l)) blank .values) (tableAfter qs (memoryOf (setUp d c w l)) blank .book)
-  -- "repeated reads need no read set": what a client reads in a cell stays the same until its transaction ends, its own writes there apart
+  -- "repeated reads need no read set": what a client reads in a cell stays the same until its transaction ends, its own writes there apart;
+  -- through all stages of its commit, as document 02, 1 asks: "Reads during a commit obey the same rule of one moment as earlier reads"
   pub steady : Steady (memoryOf (setUp d c w l)) qs
   -- "after a refused one every call gets 2"
   pub unfit : accepts (length d) (length c) w l ≡ false → AllUnfit (memoryOf (setUp d c w l)) qs

@@ -1,9 +1,9 @@
 -- What a Read finds is what its definition answers.
 -- Assumes nothing.
-use Prim.Native.Nat.{ℕ, _<_}
+use Prim.Native.Nat.{ℕ, _≤_, _<_}
 use mathlib.Core.Path.{_≡_}
 use mathlib.Core.List.{List}
-use borrow.Author.Tests.{lt-leb, eq-eqb, ne-eqb}
+use borrow.Author.Tests.{le-ltb, lt-leb, ne-eqb}
 use lib.ListN.{getD}
 use Rattle.sets.specs.Set.{clients}
 use Rattle.rows.specs.Rows.{rowsIn}
@@ -13,9 +13,9 @@ use Rattle.spec.specs.declared.Store.{Store}
 use Rattle.spec.specs.Calls.{gives, reading, read}
 use Rattle.spec.specs.Bytes.{seen}
 
-module _ (s : Store) (d c : List ℕ) (k x : ℕ) (h : k < clients) (g : x < 1024) (n : getD (s .number) k 0 ≡ 0 → ⊥) (t : getD (s .stage) k 0 ≡ 0) where
+module _ (s : Store) (d c : List ℕ) (k x : ℕ) (h : k < clients) (g : x < 1024) (n : getD (s .number) k 0 ≡ 0 → ⊥) (t : getD (s .stage) k 0 ≤ 11) where
   pub read-found : (o f : Seen) → o ≡ f → o ≡ lookFor (getD (s .number) k 0) x (getD (s .snapshot) k 0) (rowsIn 24 (s .used) d) (rowsIn 8 (s .entries) c)
       → read k x (seen s d c) ≡ gives (seen s d c) (reading f)
   unfolding read seen
   read-found o f p e =
-      rw (lt-leb clients k h, lt-leb 1024 x g, ne-eqb (getD (s .number) k 0) 0 n, eq-eqb (getD (s .stage) k 0) 0 t, ← e, p)
+      rw (lt-leb clients k h, lt-leb 1024 x g, ne-eqb (getD (s .number) k 0) 0 n, le-ltb 11 (getD (s .stage) k 0) t, ← e, p)

@@ -22,7 +22,7 @@ fn no_read(store: Store, refusal: Refusal) -> ReadTurn
     }
 }
 
-// Read answers in which data row the value stands: `value` hands its sixteen bytes back.
+// Read answers in which data row the value stands: `value` hands its sixteen bytes back. It answers until the commit is made, at stage 12.
 pub fn read(store: Store, rows: &[u8], commits: &[u8], client: u32, cell: u32) -> ReadTurn
     ensures { λ r. ⌜ leaves (r .store) (now (rows .entry)) (now (commits .entry)) (readOf (r .answer)) ≡ after (read client cell) store (now (rows .entry)) (now (commits .entry)) ⌝ }
 {
@@ -42,7 +42,7 @@ pub fn read(store: Store, rows: &[u8], commits: &[u8], client: u32, cell: u32) -
         return no_read(store, Refusal::NotOpen);
     }
     let stages = store.stage;
-    if stages[k] != 0 {
+    if 11 < stages[k] {
         return no_read(store, Refusal::WrongStage);
     }
     let used = store.used as usize;

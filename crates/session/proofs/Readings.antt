@@ -7,7 +7,7 @@ use mathlib.Core.Bool.{Bool, true, false, not}
 use mathlib.Core.List.{List, []}
 use native.Mathlib.Omega.{arith}
 use borrow.Author.Tests.{lt-leb}
-use lib.Dec.{leb, eqb}
+use lib.Dec.{ltb, leb}
 use lib.ListN.{length, take, length-take}
 use Rattle.sets.specs.Choice.{if_then_else_}
 use Rattle.sets.specs.Set.{clients}
@@ -56,7 +56,7 @@ module _ (k x : ℕ) (s : Store) (d c : List ℕ) where
   read-below : Named (λ j. j < s .used) (read k x (seen s d c))
   unfolding read seen
   read-below =
-      named-if (leb clients k) (record { row = tt }) (named-if (leb cells x) (record { row = tt }) (named-if (not (isOpen (seen s d c) k)) (record { row = tt }) (named-if (not (eqb (stageOf (seen s d c) k) 0)) (record { row = tt }) (record { row = found _ refl }))))
+      named-if (leb clients k) (record { row = tt }) (named-if (leb cells x) (record { row = tt }) (named-if (not (isOpen (seen s d c) k)) (record { row = tt }) (named-if (ltb 11 (stageOf (seen s d c) k)) (record { row = tt }) (record { row = found _ refl }))))
 
   -- the row that a read on record and buffers names stands whole in the buffer
   pub read-whole : Names (λ j. 24 * j + 24 ≤ length d) (after (read k x) s d c .answer)

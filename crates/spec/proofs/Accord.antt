@@ -1,12 +1,12 @@
--- The definitions in accord with document 01: sentences of it, each as a law of the definitions or as an example that they compute.
+-- The definitions in accord with documents 01 and 02: sentences of them, each as a law of the definitions or as an example that they compute.
 -- Assumes nothing.
 use Prim.Native.Nat.{ℕ, _≤_, _<_}
 use mathlib.Core.Path.{_≡_, refl}
 use mathlib.Core.Bool.{true}
 use mathlib.Core.Logic.{_⊎_, inl, inr}
 use mathlib.Core.List.{List, [], _∷_}
-use lib.ListN.{set, replicate}
-use borrow.Author.Tests.{le-leb, lt-leb, ne-eqb}
+use lib.ListN.{length, getD, set, replicate}
+use borrow.Author.Tests.{le-leb, lt-leb, eq-eqb, ne-eqb}
 use Rattle.sets.specs.Set.{clients, bit, member, remove, size}
 use Rattle.rows.specs.Rows.{number, bytesOf, dataRow, tagOf, cellOf, commitRow, commitNumber, commitTag, filter, hasTag}
 use Rattle.search.specs.Numbers.{lesser, smallest, above}
@@ -15,8 +15,8 @@ use Rattle.search.specs.Share.{any, wrote, cellsOf, clash, conflict}
 use Rattle.trimming.specs.Trim.{between, later, overtaken, stays, trimmedRows, inUse, trimmedCommits}
 use Rattle.spec.specs.declared.Progress.the-variants.{Waiting, Conflict}
 use Rattle.spec.specs.Answers.{wrongStage, cellLimit}
-use Rattle.spec.specs.Image.{Clients, Image, countersOf, clientsOf, imageOf, withRows, cleared, closed, stageOf, numberOf, isOpen, zeros}
-use Rattle.spec.specs.Calls.{gives, refuse, added, removed, abandon, readers, low, trimmedTo, trim}
+use Rattle.spec.specs.Image.{Clients, Image, countersOf, clientsOf, imageOf, withClients, withRows, cleared, closed, stageOf, numberOf, isOpen, zeros}
+use Rattle.spec.specs.Calls.{cells, gives, refuse, read, write, added, removed, abandon, readers, low, trimmedTo, trim}
 use Rattle.spec.specs.Steps.{looked, check}
 
 -- ---- refusals
@@ -31,6 +31,36 @@ pub abandoned-late : (k : ℕ) (i : Image) → k < clients → isOpen i k ≡ tr
 unfolding abandon
 abandoned-late k i h o (inl e) = rw (lt-leb clients k h, o, e)
 abandoned-late k i h o (inr e) = rw (lt-leb clients k h, o, e)
+
+-- ---- Read and Write during a commit (document 02, 1)
+
+-- an image with other stages
+abbrev staged : List ℕ → Image → Image
+staged g i =
+    let c : Clients = i .clients in
+    withClients i (clientsOf g (c .number) (c .snapshot) (c .request) (c .commit) (c .blockers) (c .ahead))
+
+-- "Read now answers at stages 1 to 11 with the same snapshot and the transaction's own writes": at the first and at the last of them as it would
+-- at stage 0 (the plain table speaks of all of them)
+pub read-while-waiting : (k x : ℕ) (i : Image) (g : List ℕ) → k < clients → x < cells → isOpen i k ≡ true
+    → (stageOf i k ≡ 1) ⊎ (stageOf i k ≡ 11) → getD g k 0 ≡ 0 → read k x i .answer ≡ read k x (staged g i) .answer
+unfolding read
+read-while-waiting k x i g h l o (inl e) f = rw (lt-leb clients k h, lt-leb cells x l, o, e, f)
+read-while-waiting k x i g h l o (inr e) f = rw (lt-leb clients k h, lt-leb cells x l, o, e, f)
+
+-- "stages 12 and 13 still give 7"
+pub read-late : (k x : ℕ) (i : Image) → k < clients → x < cells → isOpen i k ≡ true
+    → (stageOf i k ≡ 12) ⊎ (stageOf i k ≡ 13) → read k x i ≡ refuse wrongStage i
+unfolding read
+read-late k x i h g o (inl e) = rw (lt-leb clients k h, lt-leb cells x g, o, e)
+read-late k x i h g o (inr e) = rw (lt-leb clients k h, lt-leb cells x g, o, e)
+
+-- only Read is answered during a commit: a Write there still gets 7
+pub write-while-waiting : (k x : ℕ) (v : List ℕ) (i : Image) → k < clients → x < cells → length v ≡ 16 → isOpen i k ≡ true
+    → (stageOf i k ≡ 1) ⊎ (stageOf i k ≡ 11) → write k x v i ≡ refuse wrongStage i
+unfolding write
+write-while-waiting k x v i h g l o (inl e) = rw (lt-leb clients k h, lt-leb cells x g, eq-eqb (length v) 16 l, o, e)
+write-while-waiting k x v i h g l o (inr e) = rw (lt-leb clients k h, lt-leb cells x g, eq-eqb (length v) 16 l, o, e)
 
 -- ---- Advance
 

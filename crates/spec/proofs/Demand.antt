@@ -163,7 +163,7 @@ start-good n l w h g k = record {
 refused-right : (n w : ℕ) (q : Call) (next : Answer ℕ) → Right n w blank q (Refused unfit) next
 unfolding blank
 refused-right n w (Begin k) next = tt
-refused-right n w (Read k x) next = tt
+refused-right n w (Read k x) next = λ o e. absurd (none-some refl e)
 refused-right n w (Write k x v) next = tt
 refused-right n w (Advance k) next = λ o e. absurd (none-some refl e)
 refused-right n w (Abandon k) next = tt

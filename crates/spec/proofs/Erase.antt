@@ -3,7 +3,7 @@
 -- is right by the other (`right`).
 -- Assumes nothing.
 use Prim.Native.Nat.{ℕ, zero, suc, _+_, _-_, _≤_}
-use mathlib.Core.Path.{_≡_, refl, sym, _∙_, ap, fun-ext}
+use mathlib.Core.Path.{_≡_, refl, sym, _∙_, ap, subst, fun-ext}
 use mathlib.Core.Logic.{_≢_, ite, if-pos, if-neg, by-cases}
 use mathlib.Core.Bool.{Bool, true, false, false≢true}
 use mathlib.Core.List.{List, [], _∷_, _++_, List·Memᴰ as In, List·Memᴰ·head as here, List·Memᴰ·tail as there}
@@ -23,7 +23,7 @@ use Rattle.spec.specs.Calls.{cells}
 use Rattle.spec.specs.Run.{Call, Begin, Read, Write, Advance, Abandon, Trim, Free}
 use Rattle.spec.specs.Table.{Value, Values, has, Commit, Open, Table, blank, put, reaches, Told, tell}
 use Rattle.spec.specs.Right as r
-use Rattle.spec.specs.Right.{lastNumber, valued, Clash, RightRefusal}
+use Rattle.spec.specs.Right.{lastNumber, valued, Clash, RightRefusal, ReadRefusal}
 use Rattle.spec.proofs.Lists.{in-nil, in-case, in-one, in-left, in-right, append-case, none-some, same-some}
 use Rattle.spec.proofs.Model.{some?}
 use Rattle.spec.proofs.Plain as own
@@ -265,8 +265,9 @@ module _ (rows w W : ℕ) (rises : w ≤ W) (p : Plain) where
   unfolding erase
   right (Begin k) (Answered b) free h = (dead-none (p .cl k) (h .0), (h .1 ∙ sym (last-aged (p .book)), omega (arith, h .2)))
   right (Begin k) (Refused n) free h = six p k n h
-  right (Read k x) (Answered v) free h = (openOf (p .cl k), live-some (p .cl k) (h .0), h .1)
-  right (Read k x) (Refused n) free h = six p k n h
+  right (Read k x) (Answered v) free h = (openOf (p .cl k), live-some (p .cl k) (h .0), h .1, h .2)
+  right (Read k x) (Refused n) free h =
+      λ o e. let y = some-live (p .cl k) o e in subst (λ (z : Open). ReadRefusal x (z .stage) n) (y .1) (h (y .0))
   right (Write k x v) (Answered n) free h = (openOf (p .cl k), live-some (p .cl k) (h .0), h .1)
   right (Write k x v) (Refused n) free h = six p k n h
   right (Advance k) (Answered a) free h = (openOf (p .cl k), live-some (p .cl k) (h .0), progress p k a (h .1))

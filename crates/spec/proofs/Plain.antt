@@ -16,6 +16,7 @@ use Rattle.spec.specs.Answers.{Answer, Answered, Refused, notOpen, nothi
 use Rattle.spec.specs.Calls.{cells}
 use Rattle.spec.specs.Run.{Call, Begin, Read, Write, Advance, Abandon, Trim, Free}
 use Rattle.spec.specs.Table.{Value, unwritten, put, orElse, over, Told}
+use Rattle.spec.specs.Right.{ReadRefusal}
 use Rattle.spec.proofs.Model.{some?}
 
 -- a commit: its number and what it wrote
@@ -150,8 +151,8 @@ RightBegin w p a (Answered b) = (p .cl a .live ≡ false) × (b .snapshot ≡ la
 RightBegin w p a (Refused r) = Six p a r
 
 abbrev pub RightRead : Plain → ℕ → ℕ → Answer (Option Value) → Type 0
-RightRead p a x (Answered v) = (p .cl a .live ≡ true) × (v ≡ orElse (p .cl a .writes x) (p .cl a .copy x))
-RightRead p a x (Refused r) = Six p a r
+RightRead p a x (Answered v) = (p .cl a .live ≡ true) × (v ≡ orElse (p .cl a .writes x) (p .cl a .copy x)) × (p .cl a .stage ≤ 11)
+RightRead p a x (Refused r) = p .cl a .live ≡ true → ReadRefusal x (p .cl a .stage) r
 
 abbrev pub RightFigure : ℕ → Plain → ℕ → Answer ℕ → Type 0
 RightFigure g p a (Answered n) = (p .cl a .live ≡ true) × (p .cl a .stage < g)

@@ -3,14 +3,15 @@
 -- Assumes nothing.
 use Prim.Native.Nat.{ℕ, _+_, _-_, _≤_, _<_}
 use mathlib.Core.Path.{_≡_, refl, ap}
+use mathlib.Core.Logic.{inl, inr}
 use mathlib.Core.Bool.{not}
 use mathlib.Core.List.{List, map}
 use mathlib.Core.Option.{Option}
 use native.Mathlib.Numerals.{add-one}
 use native.Mathlib.Omega.{arith}
-use borrow.Author.Tests.{leb-false, eqb-false}
+use borrow.Author.Tests.{ltb-true, ltb-false, leb-true, leb-false, eqb-false}
 use lib.ListN.{getD}
-use lib.Dec.{eqb, leb}
+use lib.Dec.{ltb, leb, eqb}
 use Rattle.sets.specs.Set.{clients}
 use Rattle.rows.specs.Rows.{Row}
 use Rattle.search.specs.declared.Found.{Found}
@@ -27,9 +28,9 @@ use Rattle.spec.proofs.Wellformed.{Wellformed, Tidy}
 use Rattle.spec.proofs.Model as m
 use Rattle.spec.proofs.Model.{out, largest, readKey, lookup, committedAt}
 use Rattle.spec.proofs.Took.{no-begin, no-read, no-abandon, begins, reads, abandons, frees}
-use Rattle.spec.proofs.View.{dataRowOf, commitRowOf, One, clientOf, clientsAs, view, clients-put, closed-put, none-listed, stage-at, free-at, W-at}
+use Rattle.spec.proofs.View.{dataRowOf, commitRowOf, One, clientOf, clientsAs, view, clients-put, closed-put, none-listed, stage-at, past-number, free-at, W-at}
 use Rattle.spec.proofs.Searches.{ownValue, own-view, versionIn, newest-view, removed-rows}
-use Rattle.spec.proofs.Does.{seenAs, Does, does, does-if, shut, not-open, opens, at-first}
+use Rattle.spec.proofs.Does.{seenAs, Does, does, does-if, shut, not-open, opens}
 
 -- ---- Begin
 
@@ -70,14 +71,17 @@ lookup-view i k x = found-view (numberOf i k) x (snapshotOf i k) (i .commitRows)
 pub not6 : {X : Type 0} (r : ℕ) → (r ≡ notOpen → ⊥) → r ≡ notOpen → X
 not6 r n e = absurd (n e)
 
-pub read-does : (i : Image) (k x : ℕ) → Does i (Read k x) (read k x i)
+pub read-does : (i : Image) (k x : ℕ) → Wellformed i → Does i (Read k x) (read k x i)
 unfolding read
-read-does i k x =
-    does-if i (Read k x) (leb clients k) (λ _. record { did = no-read k x noClient (not6 noClient (λ e. omega arith)) }) (λ h.
-    does-if i (Read k x) (leb cells x) (λ _. record { did = no-read k x noCell (not6 noCell (λ e. omega arith)) }) (λ g.
-    does-if i (Read k x) (not (isOpen i k)) (λ e. record { did = no-read k x notOpen (λ _. not-open i k e) }) (λ o.
-    does-if i (Read k x) (not (eqb (stageOf i k) 0)) (λ _. record { did = no-read k x wrongStage (not6 wrongStage (λ e. omega arith)) }) (λ f.
-    does i (Read k x) _ (ap (λ (v : Option Value). out (view i) (Answered v)) (lookup-view i k x)) (reads k x (opens i k o) (at-first i k f))))))
+read-does i k x z =
+    does-if i (Read k x) (leb clients k)
+    (λ h. record { did = no-read k x noClient (λ o. absurd (omega (arith, o, past-number i (z .tidy) k (leb-true clients k h)))) }) (λ h.
+    does-if i (Read k x) (leb cells x) (λ g. record { did = no-read k x noCell (λ _. inl (leb-true cells x g, refl)) }) (λ g.
+    does-if i (Read k x) (not (isOpen i k)) (λ e. record { did = no-read k x notOpen (λ o. absurd (omega (arith, o, not-open i k e))) }) (λ o.
+    does-if i (Read k x) (ltb 11 (stageOf i k))
+    (λ l. record { did = no-read k x wrongStage (λ _. inr (leb-false cells x g, omega (arith, ltb-true 11 (stageOf i k) l, stage-at i k), refl)) }) (λ l.
+    does i (Read k x) _ (ap (λ (v : Option Value). out (view i) (Answered v)) (lookup-view i k x))
+    (reads k x (opens i k o) (omega (arith, ltb-false 11 (stageOf i k) l, stage-at i k)))))))
 
 -- ---- Abandon
 

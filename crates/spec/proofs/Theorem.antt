@@ -2,7 +2,7 @@
 -- W never falls, and stays a number of 32 bits: so the numbers that Begin answers rise.
 -- Assumes nothing.
 use Prim.Native.Nat.{ℕ, _≤_}
-use mathlib.Core.Path.{_≡_, refl, sym, _∙_}
+use mathlib.Core.Path.{_≡_, refl, sym, _∙_, subst}
 use mathlib.Core.Bool.{true, false, true≢false}
 use mathlib.Core.Option.{Option, none, some}
 use native.Mathlib.Decide.{ℕ-discrete}
@@ -13,7 +13,7 @@ use Rattle.spec.specs.Answers.{Answer}
 use Rattle.spec.specs.Calls.{top}
 use Rattle.spec.specs.Run.{Call}
 use Rattle.spec.specs.Table.{Told}
-use Rattle.spec.specs.Right.{numberAfter}
+use Rattle.spec.specs.Right.{ReadRefusal, numberAfter}
 use Rattle.spec.proofs.Lists.{in-nil, ite-elim, none-some, first}
 use Rattle.spec.proofs.Tickets.{idle-queue, look, count}
 use Rattle.spec.proofs.Model.{DRow, State, Out, rph, cph, begun, overwritten, added, trimmed, takeR, takeC, listR, listC, lookR, lookC, checked, committed, closed, numOf, rphase, fresh}
@@ -36,7 +36,7 @@ module _ {rows : ℕ} {s : State} {p : Plain} (inv : Inv rows s p) where
   pub good : {q : Call} {o : Out (Answer (Told q))} → Took s q o → Good rows s p q o
   unfolding plain onBegin onWrite onAdvance onProgress onAbandon overwritten added
   good (no-begin a r n) = (λ e. absurd (n e), inv)
-  good (no-read a x r n) = (six a r n, inv)
+  good (no-read a x r n) = (λ l. subst (λ (g : ℕ). ReadRefusal x g r) (sym (inv .one a .on-stage)) (n (is-open a l)), inv)
   good (no-write a x v r n) = (six a r n, inv)
   good (no-advance a r n) = (λ l. let h = n (is-open a l) in (inv .one a .on-stage ∙ h .0, h .1), inv)
   good (no-abandon a r n) = (six a r n, inv)

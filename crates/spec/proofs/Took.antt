@@ -14,6 +14,7 @@ use Rattle.spec.specs.Answers.{Answer, Answered, Refused, notOpen, nothi
 use Rattle.spec.specs.Calls.{cells, top}
 use Rattle.spec.specs.Run.{Call, Begin, Read, Write, Advance, Abandon, Trim, Free}
 use Rattle.spec.specs.Table.{Value, Told}
+use Rattle.spec.specs.Right.{ReadRefusal}
 use Rattle.spec.proofs.Tickets.{look}
 use Rattle.spec.proofs.Model.{DRow, State, Out, out, find, rph, cph, atStage, clearC, put, withClients, begun, lookup, overwritten, added, figured, removed, leave, step-to, takeR, takeC, listR, listC, lookR, lookC, checked, smallest, checkKey, committed, trimmed}
 
@@ -23,12 +24,12 @@ HasRow t d = (r : DRow) × In r d × (r .tag ≡ t)
 
 pub data Took (s : State) : (q : Call) → Out (Answer (Told q)) → Type 0 where
   no-begin : (a r : ℕ) → r ≢ notOpen → Took s (Begin a) (out s (Refused r))
-  no-read : (a x r : ℕ) → (r ≡ notOpen → s .cl a .number ≡ 0) → Took s (Read a x) (out s (Refused r))
+  no-read : (a x r : ℕ) → (1 ≤ s .cl a .number → ReadRefusal x (s .cl a .stage) r) → Took s (Read a x) (out s (Refused r))
   no-write : (a x : ℕ) (v : Value) (r : ℕ) → (r ≡ notOpen → s .cl a .number ≡ 0) → Took s (Write a x v) (out s (Refused r))
   no-advance : (a r : ℕ) → (1 ≤ s .cl a .number → (s .cl a .stage ≡ 0) × (r ≡ nothingWritten)) → Took s (Advance a) (out s (Refused r))
   no-abandon : (a r : ℕ) → (r ≡ notOpen → s .cl a .number ≡ 0) → Took s (Abandon a) (out s (Refused r))
   begins : (a : ℕ) → a < clients → s .cl a .number ≡ 0 → s .W < top → Took s (Begin a) (begun s a)
-  reads : (a x : ℕ) → 1 ≤ s .cl a .number → s .cl a .stage ≡ 0 → Took s (Read a x) (out s (Answered (lookup s a x)))
+  reads : (a x : ℕ) → 1 ≤ s .cl a .number → s .cl a .stage ≤ 11 → Took s (Read a x) (out s (Answered (lookup s a x)))
   replaces : (a x : ℕ) (v : Value) → x < cells → 1 ≤ s .cl a .number → s .cl a .stage ≡ 0 → IsSome (find (s .cl a .number) x (s .dat))
       → Took s (Write a x v) (overwritten s a x v)
   adds : (a x : ℕ) (v : Value) → x < cells → 1 ≤ s .cl a .number → s .cl a .stage ≡ 0 → find (s .cl a .number) x (s .dat) ≡ none

@@ -18,7 +18,7 @@ use Rattle.spec.proofs.Advancing.{Ready, advance-does}
 pub perform-does : (q : Call) (i : Image) → Ready i → i .counters .issued ≤ top → Does i q (perform q i)
 unfolding perform
 perform-does (Begin k) i h w = begin-does i k (h .fine) w
-perform-does (Read k x) i h w = read-does i k x
+perform-does (Read k x) i h w = read-does i k x (h .fine)
 perform-does (Write k x v) i h w = write-does i k x v (h .fine) (h .numbers k)
 perform-does (Advance k) i h w = advance-does i k h
 perform-does (Abandon k) i h w = abandon-does i k (h .fine)

@@ -9,7 +9,7 @@ use mathlib.Core.Bool.{Bool, true, false, not, _&&_}
 use mathlib.Core.List.{List, [], _∷_, _++_, map}
 use native.Mathlib.Omega.{arith}
 use borrow.Author.Tests.{leb-false, eqb-true, not-false}
-use lib.Dec.{eqb, leb}
+use lib.Dec.{eqb, leb, ltb}
 use lib.ListN.{length, getD, set, replicate, length-append, length-set, length-map, List·getD-map}
 use Rattle.sets.specs.Choice.{if_then_else_}
 use Rattle.sets.specs.Set.{clients, member, remove, strike}
@@ -203,7 +203,7 @@ module _ (i : Image) (h : Wellformed i) where
   read-kept : (k x : ℕ) → Kept i (read k x i)
   unfolding read
   read-kept k x =
-      kept-if (leb clients k) (same _) (kept-if (leb cells x) (same _) (kept-if (not (isOpen i k)) (same _) (kept-if (not (eqb (stageOf i k) 0)) (same _) (same _))))
+      kept-if (leb clients k) (same _) (kept-if (leb cells x) (same _) (kept-if (not (isOpen i k)) (same _) (kept-if (ltb 11 (stageOf i k)) (same _) (same _))))
 
   added-kept : (k x : ℕ) (v : List ℕ) → length v ≡ 16 → Kept i (added k x v i)
   unfolding added

@@ -86,7 +86,8 @@ begin k i =
     begun k i
 
 -- ---- "Read looks for a data row with the reader's tag and that cell; failing that, for the row of that cell whose tag is committed with the
--- largest commit number not above S; failing that it answers Unwritten." "Read: 2, 3, 4 cell above 1,023, 6 nothing open, 7 stage not 0."
+-- largest commit number not above S; failing that it answers Unwritten." "Read: 2, 3, 4 cell above 1,023, 6 nothing open", and document 02, 1:
+-- "Read now answers at stages 1 to 11 with the same snapshot and the transaction's own writes; stages 12 and 13 still give 7."
 
 abbrev pub reading : Seen → Reading
 reading (Version at n) = Value at
@@ -97,7 +98,7 @@ read k x i =
     if leb clients k then refuse noClient i else
     if leb cells x then refuse noCell i else
     if not (isOpen i k) then refuse notOpen i else
-    if not (eqb (stageOf i k) 0) then refuse wrongStage i else
+    if ltb 11 (stageOf i k) then refuse wrongStage i else
     gives i (reading (lookFor (numberOf i k) x (snapshotOf i k) (i .dataRows) (i .commitRows)))
 
 -- ---- "Where one client's transaction wrote a cell twice, the second write replaces the value in its row." "In each buffer new rows go in

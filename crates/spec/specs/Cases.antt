@@ -1,5 +1,6 @@
--- The house cases of document 01 that are marked P, as rows of one table, and two rows more for mistakes of its list that these eight let
--- pass. Each row has the lines that are put in, each with the line that is to come out. proofs/House.antt proves the whole table.
+-- The house cases of document 01 that are marked P, as rows of one table (case 1 with the read that document 02, 1 changes), two rows more for
+-- mistakes of its list that these eight let pass, and one row for document 02, 1. Each row has the lines that are put in, each with the line
+-- that is to come out. proofs/House.antt proves the whole table.
 -- Assumes nothing.
 use Prim.Native.Nat.{ℕ, zero, suc, _+_}
 use Prim.Native.String.{String}
@@ -44,7 +45,7 @@ cases =
           ∷ "(begin 0)" ⇒ "(begin 0 (number 1) (snapshot 0))"
           ∷ "(write 0 7 000102030405060708090a0b0c0d0e0f)" ⇒ "(write 0 7 (free 1))"
           ∷ "(advance 0)" ⇒ "(advance 0 (stage 1))"
-          ∷ "(read 0 7)" ⇒ "(read 0 7 (refused 7))"
+          ∷ "(read 0 7)" ⇒ "(read 0 7 (value 000102030405060708090a0b0c0d0e0f))"
           ∷ "(abandon 0)" ⇒ "(abandon 0 (free 2))"
           ∷ "(free)" ⇒ "(free (free 2))"
           ∷ []);
@@ -214,6 +215,67 @@ cases =
           ∷ "(read 1 7)" ⇒ "(read 1 7 (value 000102030405060708090a0b0c0d0e0f))"
           ∷ "(abandon 1)" ⇒ "(abandon 1 (free 2))"
           ∷ "(trim)" ⇒ "(trim (dropped 1))"
+          ∷ []);
+    }
+    ∷ record {
+      name = "reads while a commit waits, at stages 4 and 10";
+      exchanges =
+          -- cell 5 is committed under 1; client 0 begins, writes cell 7, and enters the queue behind client 2, who wrote it too
+          ("(set-up 8 1 0)" ⇒ "(set-up (free 8))"
+          ∷ "(begin 1)" ⇒ "(begin 1 (number 1) (snapshot 0))"
+          ∷ "(write 1 5 000102030405060708090a0b0c0d0e0f)" ⇒ "(write 1 5 (free 7))"
+          ∷ [])
+          ++ stages 1 1 13
+          ++ ("(advance 1)" ⇒ "(advance 1 (done 1))"
+          ∷ "(begin 0)" ⇒ "(begin 0 (number 2) (snapshot 1))"
+          ∷ "(write 0 7 ffeeddccbbaa99887766554433221100)" ⇒ "(write 0 7 (free 6))"
+          ∷ "(begin 2)" ⇒ "(begin 2 (number 3) (snapshot 1))"
+          ∷ "(write 2 7 000102030405060708090a0b0c0d0e0f)" ⇒ "(write 2 7 (free 5))"
+          ∷ "(advance 2)" ⇒ "(advance 2 (stage 1))"
+          ∷ "(advance 0)" ⇒ "(advance 0 (stage 1))"
+          ∷ "(read 0 7)" ⇒ "(read 0 7 (value ffeeddccbbaa99887766554433221100))"
+          ∷ "(write 0 7 000102030405060708090a0b0c0d0e0f)" ⇒ "(write 0 7 (refused 7))"
+          ∷ [])
+          ++ stages 0 2 3
+          ++ ("(advance 0)" ⇒ "(advance 0 (waiting 1))"
+          -- cell 5 is committed under 2 while client 0 waits at stage 4
+          ∷ "(begin 1)" ⇒ "(begin 1 (number 4) (snapshot 1))"
+          ∷ "(write 1 5 ffeeddccbbaa99887766554433221100)" ⇒ "(write 1 5 (free 4))"
+          ∷ [])
+          ++ stages 1 1 13
+          ++ ("(advance 1)" ⇒ "(advance 1 (done 2))"
+          ∷ "(advance 0)" ⇒ "(advance 0 (waiting 1))"
+          ∷ "(read 0 7)" ⇒ "(read 0 7 (value ffeeddccbbaa99887766554433221100))"
+          ∷ "(read 0 5)" ⇒ "(read 0 5 (value 000102030405060708090a0b0c0d0e0f))"
+          ∷ "(read 0 6)" ⇒ "(read 0 6 (unwritten))"
+          ∷ "(write 0 5 000102030405060708090a0b0c0d0e0f)" ⇒ "(write 0 5 (refused 7))"
+          -- client 3 is in the commit queue without a number: client 0 waits for it at stage 10
+          ∷ "(begin 3)" ⇒ "(begin 3 (number 5) (snapshot 2))"
+          ∷ "(write 3 9 000102030405060708090a0b0c0d0e0f)" ⇒ "(write 3 9 (free 3))"
+          ∷ [])
+          ++ stages 3 1 7
+          ++ stages 2 2 2
+          ++ stages 0 5 6
+          ++ ("(advance 0)" ⇒ "(advance 0 (waiting 1))"
+          ∷ "(read 0 7)" ⇒ "(read 0 7 (value ffeeddccbbaa99887766554433221100))"
+          ∷ "(read 0 5)" ⇒ "(read 0 5 (value 000102030405060708090a0b0c0d0e0f))"
+          ∷ "(write 0 7 000102030405060708090a0b0c0d0e0f)" ⇒ "(write 0 7 (refused 7))"
+          ∷ [])
+          ++ stages 3 8 2
+          ++ stages 0 11 1
+          ++ ("(read 0 7)" ⇒ "(read 0 7 (value ffeeddccbbaa99887766554433221100))"
+          ∷ "(read 0 5)" ⇒ "(read 0 5 (value 000102030405060708090a0b0c0d0e0f))"
+          ∷ [])
+          ++ stages 0 12 1
+          ++ ("(read 0 7)" ⇒ "(read 0 7 (refused 7))"
+          ∷ "(read 0 1024)" ⇒ "(read 0 1024 (refused 4))"
+          ∷ "(write 0 7 000102030405060708090a0b0c0d0e0f)" ⇒ "(write 0 7 (refused 7))"
+          ∷ [])
+          ++ stages 0 13 1
+          ++ ("(read 0 5)" ⇒ "(read 0 5 (refused 7))"
+          ∷ "(advance 0)" ⇒ "(advance 0 (done 3))"
+          ∷ "(begin 0)" ⇒ "(begin 0 (number 6) (snapshot 3))"
+          ∷ "(read 0 5)" ⇒ "(read 0 5 (value ffeeddccbbaa99887766554433221100))"
           ∷ []);
     }
     ∷ []

@@ -12,7 +12,7 @@ use Rattle.rows.specs.Rows.{rowsIn}
 use Rattle.spec.specs.declared.Begun.{Begun}
 use Rattle.spec.specs.declared.Progress.{Progress}
 use Rattle.spec.specs.declared.Progress.the-variants.{Stage, Waiting, Conflict, Done}
-use Rattle.spec.specs.Answers.{Answer, Answered, Refused, unfit, notOpen, nothingWritten}
+use Rattle.spec.specs.Answers.{Answer, Answered, Refused, unfit, noCell, notOpen, wrongStage, nothingWritten}
 use Rattle.spec.specs.Calls.{cells}
 use Rattle.spec.specs.Bytes.{fits, After}
 use Rattle.spec.specs.Run.{Call, Begin, Read, Write, Advance, Abandon, Trim, Free, Gives, Memory, memoryOf, takes}
@@ -71,10 +71,16 @@ abbrev pub RightBegin : ℕ → Table → ℕ → Answer Begun → Type 0
 RightBegin w t k (Answered b) = (t .clients k ≡ none) × ((b .snapshot ≡ lastNumber (t .book)) × (w < b .number))
 RightBegin w t k (Refused n) = RightRefusal (t .clients k) n
 
--- "An answered Read gives the client's own value for the cell, else its copy's, Unwritten if that has none."
+-- document 02, 1: "Read now answers at stages 1 to 11 [..]; stages 12 and 13 still give 7": at stage g an open client's Read of cell x is refused
+-- with 4 for its cell, or with 7 from stage 12 on, and for nothing else, so never with 6
+abbrev pub ReadRefusal : ℕ → ℕ → ℕ → Type 0
+ReadRefusal x g n = ((cells ≤ x) × (n ≡ noCell)) ⊎ ((x < cells) × (12 ≤ g) × (n ≡ wrongStage))
+
+-- "An answered Read gives the client's own value for the cell, else its copy's, Unwritten if that has none"; at every stage from 0 to 11, as
+-- document 02, 1 asks: "Reads during a commit obey the same rule of one moment as earlier reads"
 abbrev pub RightRead : Table → ℕ → ℕ → Answer (Option Value) → Type 0
-RightRead t k x (Answered v) = (o : Open) × (t .clients k ≡ some o) × (v ≡ orElse (o .writes x) (o .copy x))
-RightRead t k x (Refused n) = RightRefusal (t .clients k) n
+RightRead t k x (Answered v) = (o : Open) × (t .clients k ≡ some o) × (v ≡ orElse (o .writes x) (o .copy x)) × (o .stage ≤ 11)
+RightRead t k x (Refused n) = (o : Open) → t .clients k ≡ some o → ReadRefusal x (o .stage) n
 
 -- an answered Write or Abandon is one of an open client; from stage 12 on none is answered
 abbrev pub RightFigure : ℕ → Table → ℕ → Answer ℕ → Type 0

@@ -1,12 +1,24 @@
-//! Runs the step program on a script, and holds its output to the reference model and to the plain table.
+//! Runs the step program on a script, and holds its output to the reference model and to the plain table, with the landed tickets in force.
 
-use model::check::check;
+use model::check::check_under;
 use model::coverage::Coverage;
-use model::gen::generate;
+use model::forms::Grammar;
+use model::gen::generate_under;
+use model::tickets::Tickets;
 use std::io::{Read, Write};
 use std::path::PathBuf;
 use std::process::{Command, Stdio};
 use std::thread;
+
+/// The tickets of document 02 that have landed stand in one place, `tests/tickets`, for these tests and for the benchmark.
+pub fn landed() -> Tickets {
+    Tickets::parse(include_str!("../../tickets").trim()).expect("tests/tickets lists tickets of document 02")
+}
+
+/// The step program's forms and answers with the landed tickets in force.
+pub fn grammar() -> Grammar {
+    Grammar::step(landed())
+}
 
 /// Where the proved program is built.
 pub fn program() -> PathBuf {
@@ -40,16 +52,22 @@ pub fn output(input: &[u8]) -> Vec<u8> {
     output_in_pieces(input, 1 << 20)
 }
 
-/// A generated run: no difference from the model, nothing broken of the plain table. The coverage figures are handed back.
+/// What the step program prints for a script: no difference from the model, nothing broken of the plain table.
+pub fn held(name: &str, script: &[u8]) -> Vec<u8> {
+    let printed = output(script);
+    let report = check_under(grammar(), script, &printed);
+    for (judge, finding) in [("plain table", report.plain), ("model", report.model)] {
+        if let Some(finding) = finding {
+            panic!("{name}, line {}: {judge}: {}", finding.line, finding.text);
+        }
+    }
+    printed
+}
+
+/// A generated script is answered line by line, and rightly. The coverage figures are handed back.
 pub fn generated(seed: u64, lines: usize, profile: &str) -> Coverage {
-    let script = generate(seed, lines, profile).expect("a profile of the generator");
-    let report = check(&script.text, &output(&script.text));
-    assert_eq!(report.lines, lines);
-    if let Some(finding) = report.plain {
-        panic!("{profile} {seed}, line {}: plain table: {}", finding.line, finding.text);
-    }
-    if let Some(finding) = report.model {
-        panic!("{profile} {seed}, line {}: model: {}", finding.line, finding.text);
-    }
+    let script = generate_under(grammar(), seed, lines, profile).expect("a profile of the generator");
+    let printed = held(&format!("{profile} {seed}"), &script.text);
+    assert_eq!(printed.iter().filter(|byte| **byte == b'\n').count(), lines);
     script.coverage
 }

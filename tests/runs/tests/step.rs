@@ -1,41 +1,77 @@
-//! The step program: the nine house cases, the model's scripts, long generated runs, odd inputs.
+//! The step program: the house cases, the model's scripts, the examples, long generated runs, odd inputs.
 
-use model::gen::PROFILES;
-use model::session::run;
-use runs::{generated, output, output_in_pieces};
+use model::gen::{generate_under, profiles};
+use model::session::run_under;
+use model::tickets::Ticket;
+use runs::{generated, grammar, held, landed, output, output_in_pieces};
 use std::fs;
+use std::path::Path;
 
 const LINES: usize = 40_000;
 const SEEDS: std::ops::RangeInclusive<u64> = 1..=3;
 
-/// Every script of a folder, by its files' extension, prints what stands beside it; how many there are.
-fn scripts(folder: &str, extension: &str) -> usize {
-    let mut seen = 0;
-    for entry in fs::read_dir(folder).unwrap() {
+/// The house cases that landed tickets change: case 1 by ticket 1.
+const CHANGED: [&str; 1] = ["1"];
+
+/// What the model prints with the landed tickets in force.
+fn due(input: &[u8]) -> Vec<u8> {
+    run_under(grammar(), input).into_bytes()
+}
+
+/// Every script of a folder, by its files' extension, is held to the model; the names of all, and of those that print something else than what
+/// is stored beside them.
+fn scripts(folder: &str, extension: &str) -> (Vec<String>, Vec<String>) {
+    let (mut all, mut other) = (Vec::new(), Vec::new());
+    for entry in fs::read_dir(Path::new(env!("CARGO_MANIFEST_DIR")).join(folder)).unwrap() {
         let path = entry.unwrap().path();
         if path.extension().is_some_and(|e| e == extension) {
-            let wanted = fs::read(path.with_extension("out")).unwrap();
-            assert_eq!(output(&fs::read(&path).unwrap()), wanted, "{}", path.display());
-            seen += 1;
+            let name = path.file_stem().unwrap().to_string_lossy().into_owned();
+            let printed = held(&name, &fs::read(&path).unwrap());
+            if printed != fs::read(path.with_extension("out")).unwrap() {
+                other.push(name.clone());
+            }
+            all.push(name);
         }
     }
-    seen
+    other.sort();
+    (all, other)
 }
 
+/// The house cases print what document 01 makes due, but for those that a landed ticket changes.
 #[test]
-fn house_cases_and_scripts_of_the_model() {
-    assert!(scripts(concat!(env!("CARGO_MANIFEST_DIR"), "/../model/tests/house"), "in") >= 12);
+fn house_cases() {
+    let (all, other) = scripts("../model/tests/house", "in");
+    assert!(all.len() >= 12);
+    assert_eq!(other, CHANGED);
 }
 
-/// The examples of the README print what stands beside them (made by the reference model).
+/// The scripts for single tickets: those of landed ones print what document 02 makes due.
+#[test]
+fn scripts_of_tickets() {
+    let (all, other) = scripts("../model/tests/tickets", "in");
+    let of_landed = |name: &&String| Ticket::ALL.iter().any(|t| landed().has(*t) && name.starts_with(&format!("{:02}-", t.number())));
+    assert!(all.len() >= 11);
+    assert_eq!(other.iter().filter(of_landed).count(), 0, "{other:?}");
+}
+
+/// The examples of the README print what stands beside them, which the model makes.
 #[test]
 fn examples() {
-    assert!(scripts(concat!(env!("CARGO_MANIFEST_DIR"), "/../../examples"), "txt") >= 4);
+    let (all, other) = scripts("../../examples", "txt");
+    assert!(all.len() >= 5);
+    assert!(other.is_empty(), "{other:?}");
+}
+
+/// The stored run, to which `rt` holds the program, is the model's.
+#[test]
+fn stored_run() {
+    let stored = |name| fs::read(Path::new(env!("CARGO_MANIFEST_DIR")).join("../../crates/step").join(name)).unwrap();
+    assert!(stored("stdout") == due(&stored("stdin")));
 }
 
 #[test]
 fn every_profile_against_model_and_plain_table() {
-    for profile in PROFILES {
+    for profile in profiles(grammar()) {
         for seed in SEEDS {
             generated(seed, LINES, profile);
         }
@@ -66,14 +102,14 @@ fn odd_inputs() {
         &long,
     ];
     for input in inputs {
-        assert_eq!(output(input), run(input).into_bytes());
+        assert_eq!(output(input), due(input));
     }
 }
 
 #[test]
 fn input_in_small_pieces() {
-    let script = model::gen::generate(5, 2_000, "all").unwrap().text;
-    let wanted = run(&script).into_bytes();
+    let script = generate_under(grammar(), 5, 2_000, "all").unwrap().text;
+    let wanted = due(&script);
     for piece in [1, 7, 80, 81, 82, 4096] {
         assert_eq!(output_in_pieces(&script, piece), wanted, "{piece}");
     }

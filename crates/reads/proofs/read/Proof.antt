@@ -3,7 +3,7 @@
 use mathlib.Core.Path.{sym, _∙_}
 use native.Mathlib.Omega.{arith}
 use borrow.Author.Needs.{needs}
-use borrow.Author.Tests.{lt-leb, le-leb, eq-eqb, ne-eqb, not-true, not-false}
+use borrow.Author.Tests.{lt-ltb, lt-leb, le-leb, eq-eqb, ne-eqb, not-true, not-false}
 use lib.ListN.{getD}
 use Rattle.sets.specs.Set.{clients}
 use Rattle.spec.specs.Calls.{read}
@@ -70,7 +70,7 @@ unfolding read seen
 returns-5 c =
     let a = c .before .before .before .before .before .before .before .before .before .before .before .args in
     let s = a .store in
-    rw (c .no-read5 .ensures) (refuses _ _ _ _ _ (sym (c .before .before .before .before .before .before .before .before .fit .ensures) ∙ not-false _ (c .before .before .before .before .before .before .before .if1 .left)) (rw (lt-leb clients (a .client) (omega arith), lt-leb 1024 (a .cell) (omega arith), ne-eqb (getD (s .number) (a .client) 0) 0 (c .before .before .before .if4 .left), ne-eqb (getD (s .stage) (a .client) 0) 0 (c .before .if5 .taken))))
+    rw (c .no-read5 .ensures) (refuses _ _ _ _ _ (sym (c .before .before .before .before .before .before .before .before .fit .ensures) ∙ not-false _ (c .before .before .before .before .before .before .before .if1 .left)) (rw (lt-leb clients (a .client) (omega arith), lt-leb 1024 (a .cell) (omega arith), ne-eqb (getD (s .number) (a .client) 0) 0 (c .before .before .before .if4 .left), lt-ltb 11 (getD (s .stage) (a .client) 0) (omega arith))))
 
 cast-used : tie.Need-cast-used
 cast-used c = search needs
@@ -96,12 +96,12 @@ enum-told c = search needs
 returns-6 : tie.Need-returns-6
 returns-6 c =
     refuses _ _ _ _ _ (sym (c .before .before .before .before .before .before .before .before .before .before .before .before .before .before .fit .ensures) ∙ not-false _ (c .before .before .before .before .before .before .before .before .before .before .before .before .before .if1 .left))
-    (read-found _ _ _ _ _ (omega arith) (omega arith) (c .before .before .before .before .before .before .before .before .before .if4 .left) (c .before .before .before .before .before .before .before .if5 .left) _ _ (c .before .seen .given .1) (c .before .before .before .look-for .ensures))
+    (read-found _ _ _ _ _ (omega arith) (omega arith) (c .before .before .before .before .before .before .before .before .before .if4 .left) (omega arith) _ _ (c .before .seen .given .1) (c .before .before .before .look-for .ensures))
 
 returns-7 : tie.Need-returns-7
 returns-7 c =
     refuses _ _ _ _ _ (sym (c .before .before .before .before .before .before .before .before .before .before .before .before .before .fit .ensures) ∙ not-false _ (c .before .before .before .before .before .before .before .before .before .before .before .before .if1 .left))
-    (read-found _ _ _ _ _ (omega arith) (omega arith) (c .before .before .before .before .before .before .before .before .if4 .left) (c .before .before .before .before .before .before .if5 .left) _ _ (c .enum-told .given .1) (c .before .before .look-for .ensures))
+    (read-found _ _ _ _ _ (omega arith) (omega arith) (c .before .before .before .before .before .before .before .before .if4 .left) (omega arith) _ _ (c .enum-told .given .1) (c .before .before .look-for .ensures))
 
 pub read-spec : {M : Type 1} → statement M
 read-spec =

@@ -1,7 +1,7 @@
 //! `soak LINES SEEDS`: every profile of the generator, that many seeds of that many lines each.
 
-use model::gen::PROFILES;
-use runs::generated;
+use model::gen::profiles;
+use runs::{generated, grammar};
 
 fn main() {
     let words: Vec<String> = std::env::args().skip(1).collect();
@@ -9,7 +9,7 @@ fn main() {
     let (lines, seeds) = (number(0, 200_000), number(1, 5));
     let mut total = 0;
     for seed in 1..=seeds {
-        for profile in PROFILES {
+        for profile in profiles(grammar()) {
             generated(seed, lines as usize, profile);
             total += lines;
         }
