@@ -10,7 +10,7 @@ use Rattle.spec.specs.Table.{blank}
 use Rattle.spec.proofs.Demand.{demand3, all-unfit, all-fit}
 use Rattle.history.specs.Demand.{Demand3}
 use Rattle.history.proofs.Book.{rising-run, valued-run}
-use Rattle.history.proofs.Repeats.{steady-run}
+use Rattle.history.proofs.Repeats.{steady-run, unbroken-run}
 
 pub theorem : (d c : List ℕ) (w l : ℕ) → w ≤ 4294967295 → (qs : List Call) → Demand3 d c w l qs
 theorem d c w l h qs =
@@ -21,6 +21,7 @@ theorem d c w l h qs =
       rising = rising-run qs n 0 (memoryOf (setUp d c w l)) r;
       valued = valued-run qs n 0 (memoryOf (setUp d c w l)) r;
       steady = steady-run qs n 0 blank (memoryOf (setUp d c w l)) r;
+      unbroken = unbroken-run qs n 0 blank (memoryOf (setUp d c w l)) r;
       unfit = λ e. all-unfit d c w l e qs;
       fit = λ e. all-fit d c w l e qs;
     }

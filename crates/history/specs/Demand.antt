@@ -54,30 +54,46 @@ GoesOn (Waiting n) = Unit {0}
 GoesOn (Conflict n) = ⊥
 GoesOn (Done n) = ⊥
 
--- a call so answered neither ends the transaction of client k nor is a write of it to cell x
-abbrev pub Spares : ℕ → ℕ → (q : Call) → Told q → Type 0
-Spares k x (Begin j) a = Unit {0}
-Spares k x (Read j y) a = Unit {0}
-Spares k x (Write j y v) a = j ≡ k → y ≢ x
-Spares k x (Advance j) a = j ≡ k → GoesOn a
-Spares k x (Abandon j) a = j ≢ k
-Spares k x Trim a = Unit {0}
-Spares k x Free a = Unit {0}
+-- nor does it make its commit
+abbrev pub Waits : Progress → Type 0
+Waits (Stage g) = g ≢ 12
+Waits (Waiting n) = Unit {0}
+Waits (Conflict n) = ⊥
+Waits (Done n) = ⊥
 
--- no answered call of the list ends the transaction of client k or is a write of it to cell x
-abbrev pub Undisturbed : ℕ → ℕ → Memory → List Call → Type 0
-Undisturbed k x m [] = Unit {0}
-Undisturbed k x m (q ∷ qs) = ((a : Told q) → tells q m ≡ Answered a → Spares k x q a) × Undisturbed k x (memoryOf (takes q m)) qs
+-- a call so answered neither abandons the transaction of client k nor is a write of it to cell x; an Advance of k is answered as P says
+abbrev pub Spares : (Progress → Type 0) → ℕ → ℕ → (q : Call) → Told q → Type 0
+Spares P k x (Begin j) a = Unit {0}
+Spares P k x (Read j y) a = Unit {0}
+Spares P k x (Write j y v) a = j ≡ k → y ≢ x
+Spares P k x (Advance j) a = j ≡ k → P a
+Spares P k x (Abandon j) a = j ≢ k
+Spares P k x Trim a = Unit {0}
+Spares P k x Free a = Unit {0}
 
--- two answered reads of one client at one cell, undisturbed between them, give the same
+-- every answered call of the list is such a call
+abbrev pub Undisturbed : (Progress → Type 0) → ℕ → ℕ → Memory → List Call → Type 0
+Undisturbed P k x m [] = Unit {0}
+Undisturbed P k x m (q ∷ qs) = ((a : Told q) → tells q m ≡ Answered a → Spares P k x q a) × Undisturbed P k x (memoryOf (takes q m)) qs
+
+-- two answered reads of one client at one cell, in one transaction and with no write of it to the cell between them, give the same
 abbrev pub Steady : Memory → List Call → Type 0
 Steady m qs =
     (k x : ℕ) (before between rest : List Call) (u v : Option Value)
     → qs ≡ before ++ (Read k x ∷ (between ++ (Read k x ∷ rest)))
     → tells (Read k x) (afterRun before m) ≡ Answered u
-    → Undisturbed k x (afterRun (before ++ (Read k x ∷ [])) m) between
+    → Undisturbed GoesOn k x (afterRun (before ++ (Read k x ∷ [])) m) between
     → tells (Read k x) (afterRun (before ++ (Read k x ∷ between)) m) ≡ Answered v
     → u ≡ v
+
+-- until its commit is made, a client that has read a cell is answered again there, and alike
+abbrev pub Unbroken : Memory → List Call → Type 0
+Unbroken m qs =
+    (k x : ℕ) (before between rest : List Call) (u : Option Value)
+    → qs ≡ before ++ (Read k x ∷ (between ++ (Read k x ∷ rest)))
+    → tells (Read k x) (afterRun before m) ≡ Answered u
+    → Undisturbed Waits k x (afterRun (before ++ (Read k x ∷ [])) m) between
+    → tells (Read k x) (afterRun (before ++ (Read k x ∷ between)) m) ≡ Answered u
 
 -- ---- the demand
 
@@ -92,6 +108,9 @@ pub record Demand3 (d c : List ℕ) (w l : ℕ) (qs : List Call) : Type 0 where
   -- "repeated reads need no read set": what a client reads in a cell stays the same until its transaction ends, its own writes there apart;
   -- through all stages of its commit, as document 02, 1 asks: "Reads during a commit obey the same rule of one moment as earlier reads"
   pub steady : Steady (memoryOf (setUp d c w l)) qs
+  -- document 02, 1: "A screen box that also saves its layout goes blank while its commit waits. Read now answers at stages 1 to 11": it reads on,
+  -- whatever it waits for and whatever the others do
+  pub unbroken : Unbroken (memoryOf (setUp d c w l)) qs
   -- "after a refused one every call gets 2"
   pub unfit : accepts (length d) (length c) w l ≡ false → AllUnfit (memoryOf (setUp d c w l)) qs
   -- after one that is not refused the store is never unfit

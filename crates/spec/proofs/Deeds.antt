@@ -253,7 +253,7 @@ module _ {rows : ℕ} {s : State} {p : Plain} (inv : Inv rows s p) (a : ℕ) whe
         }
 
   -- A read.
-  module _ (x : ℕ) (isopen : 1 ≤ s .cl a .number) (e : s .cl a .stage ≤ 11) where
+  module _ (x : ℕ) (below : x < cells) (isopen : 1 ≤ s .cl a .number) (e : s .cl a .stage ≤ 11) where
     shows : lookup s a x ≡ orElse (p .cl a .writes x) (p .cl a .copy x)
     unfolding lookup committedAt lateness
     shows =
@@ -261,7 +261,7 @@ module _ {rows : ℕ} {s : State} {p : Plain} (inv : Inv rows s p) (a : ℕ) whe
 
     pub read-good : Good rows s p (Read a x) (out s (Answered (lookup s a x)))
     unfolding plain
-    read-good = ((inv .one a .live isopen, shows, omega (arith, inv .one a .on-stage)), inv)
+    read-good = ((inv .one a .live isopen, shows, omega (arith, inv .one a .on-stage), below), inv)
 
   -- A write.
   module _ (x : ℕ) (v : Value) (below : x < cells) (isopen : 1 ≤ s .cl a .number) (e : s .cl a .stage ≡ 0) where

@@ -265,7 +265,7 @@ module _ (rows w W : ℕ) (rises : w ≤ W) (p : Plain) where
   unfolding erase
   right (Begin k) (Answered b) free h = (dead-none (p .cl k) (h .0), (h .1 ∙ sym (last-aged (p .book)), omega (arith, h .2)))
   right (Begin k) (Refused n) free h = six p k n h
-  right (Read k x) (Answered v) free h = (openOf (p .cl k), live-some (p .cl k) (h .0), h .1, h .2)
+  right (Read k x) (Answered v) free h = (openOf (p .cl k), live-some (p .cl k) (h .0), h .1, h .2, h .3)
   right (Read k x) (Refused n) free h =
       λ o e. let y = some-live (p .cl k) o e in subst (λ (z : Open). ReadRefusal x (z .stage) n) (y .1) (h (y .0))
   right (Write k x v) (Answered n) free h = (openOf (p .cl k), live-some (p .cl k) (h .0), h .1)

@@ -107,7 +107,7 @@ module _ (s : State) (u : Under-state s) where
   keeps (begins a h was k) =
       moved a h _ same (tame-same a) (s .R) (s .C) (suc (s .W)) (omega (arith, early-one 1 (newcomer s) (omega arith) (omega arith)))
       (omega (arith, early-one 7 (newcomer s) (omega arith) (omega arith)))
-  keeps (reads a x op e) = u
+  keeps (reads a x hx op e) = u
   keeps (replaces a x v hx op e k) = u
   keeps (adds a x v hx op e n) = u
   keeps (at0 a h op e k) = later a h (atStage (s .cl a) 1) same (tame-same a) refl (omega arith)

@@ -151,7 +151,7 @@ RightBegin w p a (Answered b) = (p .cl a .live ≡ false) × (b .snapshot ≡ la
 RightBegin w p a (Refused r) = Six p a r
 
 abbrev pub RightRead : Plain → ℕ → ℕ → Answer (Option Value) → Type 0
-RightRead p a x (Answered v) = (p .cl a .live ≡ true) × (v ≡ orElse (p .cl a .writes x) (p .cl a .copy x)) × (p .cl a .stage ≤ 11)
+RightRead p a x (Answered v) = (p .cl a .live ≡ true) × (v ≡ orElse (p .cl a .writes x) (p .cl a .copy x)) × (p .cl a .stage ≤ 11) × (x < cells)
 RightRead p a x (Refused r) = p .cl a .live ≡ true → ReadRefusal x (p .cl a .stage) r
 
 abbrev pub RightFigure : ℕ → Plain → ℕ → Answer ℕ → Type 0

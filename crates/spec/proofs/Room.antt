@@ -156,7 +156,7 @@ module _ {rows : ℕ} {s : State} {p : Plain} (inv : Inv rows s p) (u : Room-sta
   stays (no-advance a r n) = u
   stays (no-abandon a r n) = u
   stays (begins a h was k) = moved a _ same (tame-same a) (λ x y. absurd (omega arith))
-  stays (reads a x op e) = u
+  stays (reads a x hx op e) = u
   stays (replaces a x v hx op e k) = record {
     distinct = u .distinct;
     backed = λ c i. let r = u .backed c i in replace-row (s .cl a .number) x v (c .tag) (s .dat) (r .0) (r .1) (r .2);

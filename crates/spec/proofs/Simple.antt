@@ -81,7 +81,7 @@ read-does i k x z =
     does-if i (Read k x) (ltb 11 (stageOf i k))
     (λ l. record { did = no-read k x wrongStage (λ _. inr (leb-false cells x g, omega (arith, ltb-true 11 (stageOf i k) l, stage-at i k), refl)) }) (λ l.
     does i (Read k x) _ (ap (λ (v : Option Value). out (view i) (Answered v)) (lookup-view i k x))
-    (reads k x (opens i k o) (omega (arith, ltb-false 11 (stageOf i k) l, stage-at i k)))))))
+    (reads k x (leb-false cells x g) (opens i k o) (omega (arith, ltb-false 11 (stageOf i k) l, stage-at i k)))))))
 
 -- ---- Abandon
 

@@ -41,7 +41,7 @@ module _ {rows : ℕ} {s : State} {p : Plain} (inv : Inv rows s p) where
   good (no-advance a r n) = (λ l. let h = n (is-open a l) in (inv .one a .on-stage ∙ h .0, h .1), inv)
   good (no-abandon a r n) = (six a r n, inv)
   good (begins a h was w) = begin-good inv a h was
-  good (reads a x o e) = read-good inv a x o e
+  good (reads a x hx o e) = read-good inv a x hx o e
   good (replaces a x v hx o e k) = write-good inv a x v hx o e _ (write-replaced (s .cl a .number) x v (s .dat) k)
   good (adds a x v hx o e n) = write-good inv a x v hx o e _ (write-added (s .cl a .number) x v (s .dat) n)
   good (at0 a h o e k) = arm0 inv a o e
@@ -82,7 +82,7 @@ module _ {s : State} {w : ℕ} (n : Numbered w (s .W)) where
   numbered (no-advance a r k) = n
   numbered (no-abandon a r k) = n
   numbered (begins a h was k) = record { issued = omega arith; within = omega arith }
-  numbered (reads a x o e) = n
+  numbered (reads a x hx o e) = n
   numbered (replaces a x v hx o e k) = n
   numbered (adds a x v hx o e k) = n
   numbered (at0 a h o e k) = n

@@ -29,7 +29,7 @@ pub data Took (s : State) : (q : Call) → Out (Answer (Told q)) → Type 0 wher
   no-advance : (a r : ℕ) → (1 ≤ s .cl a .number → (s .cl a .stage ≡ 0) × (r ≡ nothingWritten)) → Took s (Advance a) (out s (Refused r))
   no-abandon : (a r : ℕ) → (r ≡ notOpen → s .cl a .number ≡ 0) → Took s (Abandon a) (out s (Refused r))
   begins : (a : ℕ) → a < clients → s .cl a .number ≡ 0 → s .W < top → Took s (Begin a) (begun s a)
-  reads : (a x : ℕ) → 1 ≤ s .cl a .number → s .cl a .stage ≤ 11 → Took s (Read a x) (out s (Answered (lookup s a x)))
+  reads : (a x : ℕ) → x < cells → 1 ≤ s .cl a .number → s .cl a .stage ≤ 11 → Took s (Read a x) (out s (Answered (lookup s a x)))
   replaces : (a x : ℕ) (v : Value) → x < cells → 1 ≤ s .cl a .number → s .cl a .stage ≡ 0 → IsSome (find (s .cl a .number) x (s .dat))
       → Took s (Write a x v) (overwritten s a x v)
   adds : (a x : ℕ) (v : Value) → x < cells → 1 ≤ s .cl a .number → s .cl a .stage ≡ 0 → find (s .cl a .number) x (s .dat) ≡ none

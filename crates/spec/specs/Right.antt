@@ -77,9 +77,9 @@ abbrev pub ReadRefusal : ℕ → ℕ → ℕ → Type 0
 ReadRefusal x g n = ((cells ≤ x) × (n ≡ noCell)) ⊎ ((x < cells) × (12 ≤ g) × (n ≡ wrongStage))
 
 -- "An answered Read gives the client's own value for the cell, else its copy's, Unwritten if that has none"; at every stage from 0 to 11, as
--- document 02, 1 asks: "Reads during a commit obey the same rule of one moment as earlier reads"
+-- document 02, 1 asks: "Reads during a commit obey the same rule of one moment as earlier reads"; and of a cell that there is
 abbrev pub RightRead : Table → ℕ → ℕ → Answer (Option Value) → Type 0
-RightRead t k x (Answered v) = (o : Open) × (t .clients k ≡ some o) × (v ≡ orElse (o .writes x) (o .copy x)) × (o .stage ≤ 11)
+RightRead t k x (Answered v) = (o : Open) × (t .clients k ≡ some o) × (v ≡ orElse (o .writes x) (o .copy x)) × (o .stage ≤ 11) × (x < cells)
 RightRead t k x (Refused n) = (o : Open) → t .clients k ≡ some o → ReadRefusal x (o .stage) n
 
 -- an answered Write or Abandon is one of an open client; from stage 12 on none is answered
