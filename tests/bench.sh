@@ -15,22 +15,22 @@ trap 'rm -rf "$work"' EXIT
 echo
 echo "| profile, 400,000 lines | step / hand-written | model / hand-written |"
 echo "|---|---:|---:|"
-seconds() { # SCRIPT PROGRAM ARGUMENT..: the smallest user time of five runs
-    local script=$1 best=999 TIMEFORMAT=%U t
+least() { # BEST PROGRAM ARGUMENT..: the user time of a run on the script, or BEST if that is less
+    local best=$1 TIMEFORMAT=%U t
     shift
-    for _ in 1 2 3 4 5; do
-        t=$({ time "$@" <"$script" >/dev/null; } 2>&1)
-        best=$(awk -v a="$best" -v b="$t" 'BEGIN { print (b < a) ? b : a }')
-    done
-    echo "$best"
+    t=$({ time "$@" <"$work/script" >/dev/null; } 2>&1)
+    awk -v a="$best" -v b="$t" 'BEGIN { print (b < a) ? b : a }'
 }
 for profile in mixed contended single reads limits garbage all; do
     "$model/model-gen" 1 400000 "$profile" --tickets "$tickets" >"$work/script"
     target/bin/step <"$work/script" >"$work/ours"
     "$dir/release/baseline-step" <"$work/script" >"$work/theirs"
     cmp "$work/ours" "$work/theirs"
-    hand=$(seconds "$work/script" "$dir/release/baseline-step")
-    ours=$(seconds "$work/script" target/bin/step)
-    other=$(seconds "$work/script" "$model/model-step" --tickets "$tickets")
+    hand=999 ours=999 other=999
+    for _ in {1..15}; do # by turns, so that what else the machine does falls on all three
+        hand=$(least "$hand" "$dir/release/baseline-step")
+        ours=$(least "$ours" target/bin/step)
+        other=$(least "$other" "$model/model-step" --tickets "$tickets")
+    done
     awk -v p="$profile" -v h="$hand" -v o="$ours" -v m="$other" 'BEGIN { printf "| %s | %.2f | %.2f |\n", p, o / h, m / h }'
 done
