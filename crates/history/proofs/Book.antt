@@ -33,7 +33,7 @@ module _ (P : Values → List Commit → Type 0)
   unfolding reaches
   stage-keeps t o k g r h =
       either (λ s. P (s .values) (s .book)) (eqb g 8) (λ _. h)
-      (λ _. either (λ s. P (s .values) (s .book)) (eqb g 12) (λ e. made k t o (r .1 .1 (eqb-true g 12 e) .1) h) (λ _. h))
+      (λ _. either (λ s. P (s .values) (s .book)) (eqb g 12) (λ e. made k t o (r .1 .1 .1 (eqb-true g 12 e) .1) h) (λ _. h))
 
   call-keeps : (n w : ℕ) (t : Table) (q : Call) (a : Answer (Told q)) (next : Answer ℕ) → Right n w t q a next → P (t .values) (t .book)
       → P (tell q a t .values) (tell q a t .book)

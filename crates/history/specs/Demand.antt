@@ -14,7 +14,7 @@ use Rattle.spec.specs.Answers.{Answered}
 use Rattle.spec.specs.Bytes.{accepts, setUp}
 use Rattle.spec.specs.Run.{Call, Begin, Read, Write, Advance, Abandon, Trim, Free, Memory, memoryOf, takes}
 use Rattle.spec.specs.Table.{Value, Values, has, Commit, Table, blank, Told, tell}
-use Rattle.spec.specs.Right.{tells, RightRun, AllUnfit, AllFit}
+use Rattle.spec.specs.Right.{tells, RightRun, AllListed, AllUnfit, AllFit}
 
 -- ---- what a list of calls leaves
 
@@ -111,6 +111,8 @@ pub record Demand3 (d c : List ℕ) (w l : ℕ) (qs : List Call) : Type 0 where
   -- document 02, 1: "A screen box that also saves its layout goes blank while its commit waits. Read now answers at stages 1 to 11": it reads on,
   -- whatever it waits for and whatever the others do
   pub unbroken : Unbroken (memoryOf (setUp d c w l)) qs
+  -- "Refusal by operation": a refused call gets one of the numbers listed for it; 11 is in no list: it "never occurs any more" (document 02, 2)
+  pub listed : AllListed (memoryOf (setUp d c w l)) qs
   -- "after a refused one every call gets 2"
   pub unfit : accepts (length d) (length c) w l ≡ false → AllUnfit (memoryOf (setUp d c w l)) qs
   -- after one that is not refused the store is never unfit

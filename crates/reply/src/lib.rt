@@ -16,7 +16,7 @@ ghost use Rattle.spec.specs.Answers.{code, figureOf, beginOf, readOf, advanceOf
 ghost use Rattle.spec.specs.Text.{str, numbered, headText, lineText, answerText, freeText, droppedText, begunText, readingText, progressText, refusedText, hexText};
 ghost use Rattle.text.specs.Print.{Put};
 
-// Document 01's number of a refusal.
+// Document 01's number of a refusal; 11 is unused.
 pub fn code_of(r: Refusal) -> u32
     ensures { λ n. ⌜ n ≡ code r ⌝ }
 {
@@ -31,7 +31,6 @@ pub fn code_of(r: Refusal) -> u32
         Refusal::NumbersUsedUp => 8,
         Refusal::CellLimit => 9,
         Refusal::NoFreeRow => 10,
-        Refusal::NothingWritten => 11,
         Refusal::WrongLength => 12,
     }
 }

@@ -13,11 +13,11 @@ use Rattle.search.specs.Numbers.{lesser, smallest, above}
 use Rattle.search.specs.Look.{commitOf, isOwn}
 use Rattle.search.specs.Share.{any, wrote, cellsOf, clash, conflict}
 use Rattle.trimming.specs.Trim.{between, later, overtaken, stays, trimmedRows, inUse, trimmedCommits}
-use Rattle.spec.specs.declared.Progress.the-variants.{Waiting, Conflict}
+use Rattle.spec.specs.declared.Progress.the-variants.{Waiting, Conflict, Done}
 use Rattle.spec.specs.Answers.{wrongStage, cellLimit}
 use Rattle.spec.specs.Image.{Clients, Image, countersOf, clientsOf, imageOf, withClients, withRows, cleared, closed, stageOf, numberOf, isOpen, zeros}
-use Rattle.spec.specs.Calls.{cells, gives, refuse, read, write, added, removed, abandon, readers, low, trimmedTo, trim}
-use Rattle.spec.specs.Steps.{looked, check}
+use Rattle.spec.specs.Calls.{cells, top, gives, refuse, read, write, added, removed, abandon, readers, low, trimmedTo, trim}
+use Rattle.spec.specs.Steps.{goOn, finished, enter, looked, check, advance}
 
 -- ---- refusals
 
@@ -85,6 +85,21 @@ meeting =
 pub next-commit : check 0 meeting ≡ gives (imageOf 4 16 (countersOf 2 2 1 1) closedAll (dataRow 1 7 value ∷ []) (commitRow 1 1 ∷ [])) (Conflict 1)
 unfolding check removed closed cleared bit member remove conflict clash wrote any isOwn commitOf above smallest lesser filter hasTag tagOf cellOf commitTag commitNumber number dataRow commitRow bytesOf
 next-commit = refl
+
+-- document 02, 2: "Advance at stage 0 with nothing written now answers Done with the snapshot number and closes the transaction. Nothing enters a
+-- queue, and no number is taken", even with R and C used up: client 0's transaction 5, with S 1, wrote nothing; the last commit is 2, and client
+-- 1's transaction 4 is under way
+abbrev enquiry : Clients → Image
+enquiry c =
+    imageOf 4 16 (countersOf 5 top top 2) c (dataRow 1 7 value ∷ dataRow 2 7 value ∷ dataRow 4 7 value ∷ []) (commitRow 1 1 ∷ commitRow 2 2 ∷ [])
+
+abbrev underway : Clients
+underway = clientsOf (set zeros 1 8) (set zeros 1 4) (set zeros 1 2) (set zeros 1 3) (set zeros 1 3) zeros zeros
+
+pub done-unchanged : advance 0 (enquiry (clientsOf (underway .stage) (set (underway .number) 0 5) (set (underway .snapshot) 0 1) (underway .request) (underway .commit) zeros zeros))
+    ≡ gives (enquiry underway) (Done 1)
+unfolding advance enter finished goOn closed cleared bit member remove any hasTag tagOf number dataRow bytesOf
+done-unchanged = refl
 
 -- ---- Trim
 

@@ -4,13 +4,13 @@
 use Prim.Native.Nat.{ℕ, _+_, _-_, _^_, _≤_, _<_}
 use mathlib.Core.Path.{_≡_, refl, sym, ap, _∙_}
 use mathlib.Core.Logic.{_≢_, if-pos, if-neg, by-cases}
-use mathlib.Core.Bool.{true, not, _&&_}
+use mathlib.Core.Bool.{true, false, not, _&&_}
 use mathlib.Core.List.{[], _∷_, _++_, map}
 use mathlib.Core.Option.{Option, none, some}
 use native.Mathlib.Decide.{ℕ-discrete}
 use native.Mathlib.Numerals.{add-one}
 use native.Mathlib.Omega.{arith}
-use borrow.Author.Tests.{eq-eqb, ne-eqb, eqb-true, leb-true, leb-false, not-false}
+use borrow.Author.Tests.{eq-eqb, ne-eqb, eqb-true, leb-true, leb-false, not-true, not-false}
 use lib.ListN.{length, getD}
 use lib.Dec.{eqb, leb}
 use Rattle.sets.specs.Set.{clients, member, size, collect, strike}
@@ -20,7 +20,7 @@ use Rattle.search.specs.declared.Number.{Number}
 use Rattle.search.specs.declared.Number.the-variants.{Some, None}
 use Rattle.search.specs.Share.{any, shares, conflict}
 use Rattle.spec.specs.declared.Progress.the-variants.{Stage, Waiting, Done}
-use Rattle.spec.specs.Answers.{Answered, noClient, notOpen, nothingWritten}
+use Rattle.spec.specs.Answers.{Answered, noClient, notOpen}
 use Rattle.spec.specs.Image.{Clients, Image, withClients, withRows, withRequested, withTaken, withLast, setRequest, setCommit, setBlockers, setAhead, isOpen, stageOf, numberOf, snapshotOf, requestOf, commitNumberOf}
 use Rattle.spec.specs.Calls.{gives, top}
 use Rattle.spec.specs.Steps as st
@@ -31,9 +31,9 @@ use Rattle.spec.proofs.Lists.{none-some, same-some}
 use Rattle.spec.proofs.Tickets.{listing, look}
 use Rattle.spec.proofs.Model as m
 use Rattle.spec.proofs.Model.{DRow, put, clearC, out, atStage, withRwait, withCwait, rphase, cphase, sharing?}
-use Rattle.spec.proofs.Took.{HasRow, no-advance, at0, at1, at2, at3, at4, at5, at6, at7, at8, at9, at10, at11, at12, at13}
+use Rattle.spec.proofs.Took.{HasRow, no-advance, at0, ends0, at1, at2, at3, at4, at5, at6, at7, at8, at9, at10, at11, at12, at13}
 use Rattle.spec.proofs.View.{dataRowOf, commitRowOf, clientOf, clientsAs, view, stage-put, request-put, commit-put, blockers-put, ahead-put, left-put, closed-put, waits-put, map-join, stage-at, past-number}
-use Rattle.spec.proofs.Searches.{has-row, shares-view, asNumber, numberIn, check-view}
+use Rattle.spec.proofs.Searches.{has-row, no-row, shares-view, asNumber, numberIn, check-view}
 use Rattle.spec.proofs.Listings.{count-view, size-none, size-zero, phased-requests, phased-commits, others-view, some-view, look-view}
 use Rattle.spec.proofs.Does.{seenAs, Does, does, does-if, not-open, opens}
 use Rattle.spec.proofs.Simple.{number-of, removed-view}
@@ -61,6 +61,10 @@ between g l n0 n1 n2 n3 n4 n5 n6 n7 n8 n9 n10 n11 n12 n13 =
 commit-row : (n t : ℕ) → n < 4294967296 → t < 4294967296 → commitRowOf (commitRow n t) ≡ record { number = n; tag = t }
 unfolding commitRowOf
 commit-row n t h g = λ i. record { number = commitNumber-commitRow n t h i; tag = commitTag-commitRow n t g i }
+
+snapshot-of : (c : Clients) (k : ℕ) → clientsAs c k .snapshot ≡ getD (c .snapshot) k 0
+unfolding clientsAs clientOf
+snapshot-of c k = refl
 
 commit-of : (c : Clients) (k : ℕ) → clientsAs c k .commit ≡ getD (c .commit) k 0
 unfolding clientsAs clientOf
@@ -199,8 +203,12 @@ module _ (i : Image) (ready : Ready i) (k : ℕ) (h : k < clients) where
   leave-commits = rw (left-put (i .clients) (ready .fine .tidy) k h)
 
   leave-requests : seenAs (Advance k) (st.leaveRequests k i) ≡ out (m.leave (view i) k (view i .dat)) (Answered (Done (view i .cl k .commit)))
-  unfolding st.leaveRequests view
+  unfolding st.leaveRequests st.finished view
   leave-requests = rw (closed-put (i .clients) (ready .fine .tidy) k h, commit-of (i .clients) k)
+
+  leave-nothing : seenAs (Advance k) (st.finished (snapshotOf i k) k i) ≡ out (m.leave (view i) k (view i .dat)) (Answered (Done (view i .cl k .snapshot)))
+  unfolding st.finished view
+  leave-nothing = rw (closed-put (i .clients) (ready .fine .tidy) k h, snapshot-of (i .clients) k)
 
   -- the step that the stage calls for
   module _ (o : 1 ≤ view i .cl k .number) where
@@ -208,13 +216,17 @@ module _ (i : Image) (ready : Ready i) (k : ℕ) (h : k < clients) where
     unfolding view clientsAs clientOf
     has-rows e = has-row (numberOf i k) (i .dataRows) e
 
+    no-rows : any (hasTag (numberOf i k)) (i .dataRows) ≡ false → HasRow (view i .cl k .number) (view i .dat) → ⊥
+    unfolding view clientsAs clientOf
+    no-rows e = no-row (numberOf i k) (i .dataRows) e
+
     at : {g : ℕ} → stageOf i k ≡ g → view i .cl k .stage ≡ g
     at e = stage-at i k ∙ e
 
     enters : stageOf i k ≡ 0 → Does i (Advance k) (st.enter k i)
     unfolding st.enter
     enters e =
-        does-if i (Advance k) (not (any (hasTag (numberOf i k)) (i .dataRows))) (λ _. record { did = no-advance k nothingWritten (λ _. (at e, refl)) })
+        does-if i (Advance k) (not (any (hasTag (numberOf i k)) (i .dataRows))) (λ n. does i (Advance k) _ leave-nothing (ends0 k h o (at e) (no-rows (not-true (any (hasTag (numberOf i k)) (i .dataRows)) n))))
         (λ n. does i (Advance k) _ (goOn-view 1) (at0 k h o (at e) (has-rows (not-false (any (hasTag (numberOf i k)) (i .dataRows)) n))))
 
     requested : stageOf i k ≡ 1 → Does i (Advance k) (st.takeRequest k i)
@@ -257,6 +269,6 @@ pub advance-does : (i : Image) (k : ℕ) → Ready i → Does i (Advance k) (st.
 unfolding st.advance
 advance-does i k ready =
     does-if i (Advance k) (leb clients k)
-    (λ h. record { did = no-advance k noClient (λ o. absurd (omega (arith, o, past-number i (ready .fine .tidy) k (leb-true clients k h)))) }) (λ h.
-    does-if i (Advance k) (not (isOpen i k)) (λ e. record { did = no-advance k notOpen (λ o. absurd (omega (arith, o, not-open i k e))) }) (λ o.
+    (λ h. record { did = no-advance k noClient (past-number i (ready .fine .tidy) k (leb-true clients k h)) }) (λ h.
+    does-if i (Advance k) (not (isOpen i k)) (λ e. record { did = no-advance k notOpen (not-open i k e) }) (λ o.
     step-does i ready k (leb-false clients k h) (opens i k o) (stageOf i k) refl (ready .fine .tidy .stage .each k)))

@@ -12,8 +12,9 @@ use native.Mathlib.Omega.{arith}
 use Rattle.spec.proofs.Lists.{first-in, ite-elim}
 use Rattle.spec.proofs.Tickets.{Others, low, taken, own, listing, listing-has, look, look-keeps, count, count-none}
 use Rattle.spec.proofs.Model.{free, DRow, Client, State, find, valueAt, rphase, cphase, rph, cph, put, same, clearC, atStage, withRequest, withCommit, withRwait, withCwait, Out, out, step-to, takeR, takeC, listR, listC, lookR, lookC, sharing?, withClients}
-use Rattle.spec.proofs.Book.{is-some, value-at}
-use Rattle.spec.proofs.Plain.{Plain, setP, plain, onAdvance, onProgress, onStage, moved, took, Right, RightAdvance, Shares, restaged}
+use Rattle.spec.proofs.Book.{is-some, value-at, row-find}
+use Rattle.spec.proofs.Plain.{Plain, setP, plain, onAdvance, onProgress, onStage, moved, took, Right, RightAdvance, Shares, Wrote, restaged}
+use Rattle.spec.proofs.Took.{HasRow}
 use Rattle.spec.proofs.Invariant.{lateness, Rel, Always, RQ, CQ, Inv}
 use Rattle.spec.proofs.Moves.{put-at, setP-at, setP-off, each, Tame, tame-same, tame-C, off, others-R, others-C, stepped, moves}
 use Rattle.spec.specs.Table.{Told}
@@ -52,18 +53,19 @@ sharing d t u h =
     (r .0, r .1, (e .0, rw (e .1) (h .2)))
 
 module _ {rows : ℕ} {s : State} {p : Plain} (inv : Inv rows s p) (a : ℕ) (isopen : 1 ≤ s .cl a .number) where
-  pub right-stage : (k : ℕ) → k ≡ suc (s .cl a .stage) → k ≢ 6 → k ≢ 12 → RightAdvance p a (Answered (Stage k))
-  right-stage k e m n = (inv .one a .live isopen, (omega (arith, inv .one a .on-stage), λ h. absurd (m h), λ h. absurd (n h)))
+  pub right-stage : (k : ℕ) → k ≡ suc (s .cl a .stage) → k ≢ 6 → k ≢ 12 → (k ≡ 1 → Wrote (p .cl a)) → RightAdvance p a (Answered (Stage k))
+  right-stage k e m n w = (inv .one a .live isopen, (omega (arith, inv .one a .on-stage), w, λ h. absurd (m h), λ h. absurd (n h)))
 
   -- A step to stage k that takes no commit number and makes no commit.
   module _ (c : Client) (f : Client → Client) (tame : Tame a f) (R : ℕ) (e : c .stage ≡ suc (s .cl a .stage))
       (number : c .number ≡ s .cl a .number) (snapshot : c .snapshot ≡ s .cl a .snapshot) (commit : c .commit ≡ s .cl a .commit)
-      (not8 : c .stage ≢ 8) (not12 : c .stage ≢ 12) (not6 : c .stage ≢ 6) where
+      (not8 : c .stage ≢ 8) (not12 : c .stage ≢ 12) (not6 : c .stage ≢ 6)
+      (wrote : c .stage ≡ 1 → Wrote (p .cl a)) where
     pub goes : RQ (stepped s R (s .C) (put a c f (s .cl))) → CQ (stepped s R (s .C) (put a c f (s .cl)))
         → Good rows s p (Advance a) (out (stepped s R (s .C) (put a c f (s .cl))) (Answered (Stage (c .stage))))
     unfolding plain onAdvance onProgress
     goes rq cq = (
-      right-stage (c .stage) e not6 not12,
+      right-stage (c .stage) e not6 not12 wrote,
       rw (onStage-moved p a (c .stage) not8 not12)
           (moves inv a c f tame R (s .C) (p .count) (p .cl a .commit) (inv .counted) (setP a (restaged (p .cl a) (c .stage) (p .cl a .commit)) (p .cl))
           (setP-at a _ (p .cl)) (setP-off a _ (p .cl)) number snapshot (late-step (s .cl a .stage) (c .stage) e not12) isopen (omega arith) rq cq
@@ -121,22 +123,28 @@ module _ {rows : ℕ} {s : State} {p : Plain} (inv : Inv rows s p) (a : ℕ) (is
   abbrev to : ℕ → Client
   to k = atStage (s .cl a) k
 
-  module _ (k : ℕ) (e : k ≡ suc (s .cl a .stage)) (n6 : k ≢ 6) (n8 : k ≢ 8) (n12 : k ≢ 12) where
+  module _ (k : ℕ) (e : k ≡ suc (s .cl a .stage)) (n6 : k ≢ 6) (n8 : k ≢ 8) (n12 : k ≢ 12) (wrote : k ≡ 1 → Wrote (p .cl a)) where
     simply : RQ (stepped s (s .R) (s .C) (put a (to k) same (s .cl))) → CQ (stepped s (s .R) (s .C) (put a (to k) same (s .cl))) → Good rows s p (Advance a) (step-to s a k)
-    simply rq cq = goes (to k) same (tame-same a) (s .R) e refl refl refl n8 n12 n6 rq cq
+    simply rq cq = goes (to k) same (tame-same a) (s .R) e refl refl refl n8 n12 n6 wrote rq cq
 
   pub le : {x : ℕ} → x ≤ x
   le = omega arith
 
-  pub arm0 : s .cl a .stage ≡ 0 → Good rows s p (Advance a) (step-to s a 1)
+  -- a row of an open client below stage 12 is one of its writes
+  row-wrote : s .cl a .stage < 12 → HasRow (s .cl a .number) (s .dat) → Wrote (p .cl a)
+  unfolding lateness
+  row-wrote h r =
+      (r .0 .cell, rw (inv .tab .mine a isopen .held (omega arith) (r .0 .cell)) at (row-find (s .cl a .number) (r .0 .cell) (s .dat) (r .0) (r .1) (r .2) refl))
+
+  pub arm0 : s .cl a .stage ≡ 0 → HasRow (s .cl a .number) (s .dat) → Good rows s p (Advance a) (step-to s a 1)
   unfolding rphase
-  arm0 e = simply 1 (omega arith) (omega arith) (omega arith) (omega arith)
+  arm0 e r = simply 1 (omega arith) (omega arith) (omega arith) (omega arith) (λ _. row-wrote (omega arith) r)
       (R-low (to 1) same (tame-same a) refl (s .R) (s .C) le le (omega arith))
       (C-low (to 1) same (tame-same a) refl (s .R) (s .C) le le (omega (arith, cph-in 1 (omega arith))))
 
   pub arm1 : s .cl a .stage ≡ 1 → Good rows s p (Advance a) (takeR s a)
   unfolding rphase takeR
-  arm1 e = goes c same (tame-same a) (suc (s .R)) (omega arith) refl refl refl (omega arith) (omega arith) (omega arith)
+  arm1 e = goes c same (tame-same a) (suc (s .R)) (omega arith) refl refl refl (omega arith) (omega arith) (omega arith) (λ h. absurd (omega arith))
       (R-taken c same (tame-same a) refl (suc (s .R)) (s .C) (omega arith) le (omega arith) refl refl)
       (C-low c same (tame-same a) refl (suc (s .R)) (s .C) (omega arith) le (omega (arith, cph-in 2 (omega arith))))
     where
@@ -145,7 +153,7 @@ module _ {rows : ℕ} {s : State} {p : Plain} (inv : Inv rows s p) (a : ℕ) (is
 
   pub arm2 : s .cl a .stage ≡ 2 → Good rows s p (Advance a) (step-to s a 3)
   unfolding rphase
-  arm2 e = simply 3 (omega arith) (omega arith) (omega arith) (omega arith)
+  arm2 e = simply 3 (omega arith) (omega arith) (omega arith) (omega arith) (λ h. absurd (omega arith))
       (R-own (to 3) same (tame-same a) refl (s .R) (s .C) le le (λ d. refl) (omega arith) refl (λ h. absurd (omega arith)) (λ h. absurd (omega arith)))
       (C-low (to 3) same (tame-same a) refl (s .R) (s .C) le le (omega (arith, cph-in 3 (omega arith))))
 
@@ -154,7 +162,7 @@ module _ {rows : ℕ} {s : State} {p : Plain} (inv : Inv rows s p) (a : ℕ) (is
 
   pub arm3 : s .cl a .stage ≡ 3 → Good rows s p (Advance a) (listR s a)
   unfolding rphase listR
-  arm3 e = goes c same (tame-same a) (s .R) (omega arith) refl refl refl (omega arith) (omega arith) (omega arith)
+  arm3 e = goes c same (tame-same a) (s .R) (omega arith) refl refl refl (omega arith) (omega arith) (omega arith) (λ h. absurd (omega arith))
       (R-own c same (tame-same a) refl (s .R) (s .C) le le (λ d. refl) (omega arith) refl
       (λ _ b n hb r l. listing-has (rph s) (λ b. sharing? (s .dat) (s .cl b .number) (s .cl a .number)) a b (open-below b (omega arith)) n (omega arith) (sharing (s .dat) _ _ r))
       (λ h. absurd (omega arith)))
@@ -182,7 +190,7 @@ module _ {rows : ℕ} {s : State} {p : Plain} (inv : Inv rows s p) (a : ℕ) (is
   unfolding rphase lookR
   arm4 e =
       ite-elim (Good rows s p (Advance a)) (ℕ-discrete (count clients w) 0)
-      (λ z. goes (c 5) same (tame-same a) (s .R) (omega arith) refl refl refl (omega arith) (omega arith) (omega arith)
+      (λ z. goes (c 5) same (tame-same a) (s .R) (omega arith) refl refl refl (omega arith) (omega arith) (omega arith) (λ h. absurd (omega arith))
       (R-own (c 5) same (tame-same a) refl (s .R) (s .C) le le (λ d. refl) (omega arith) refl
       (λ h. absurd (omega arith))
       (λ _ b n hb r l. count-none clients w z b (open-below b (omega arith)) (still b n hb r l)))
@@ -208,7 +216,7 @@ module _ {rows : ℕ} {s : State} {p : Plain} (inv : Inv rows s p) (a : ℕ) (is
     R-past = R-stay c f tame number (s .R) C le hC fr (omega arith) request (omega arith) wait
 
   pub arm6 : s .cl a .stage ≡ 6 → Good rows s p (Advance a) (step-to s a 7)
-  arm6 e = simply 7 (omega arith) (omega arith) (omega arith) (omega arith)
+  arm6 e = simply 7 (omega arith) (omega arith) (omega arith) (omega arith) (λ h. absurd (omega arith))
       (R-past (to 7) same (tame-same a) (λ d. refl) refl (s .C) le (omega arith) (omega arith) refl refl)
       (C-low (to 7) same (tame-same a) refl (s .R) (s .C) le le (omega (arith, cph-in 7 (omega arith))))
 
@@ -219,7 +227,7 @@ module _ {rows : ℕ} {s : State} {p : Plain} (inv : Inv rows s p) (a : ℕ) (is
   pub arm7 : s .cl a .stage ≡ 7 → Good rows s p (Advance a) (takeC s a)
   unfolding plain onAdvance onProgress takeC
   arm7 e = (
-    right-stage 8 (omega arith) (omega arith) (omega arith),
+    right-stage 8 (omega arith) (omega arith) (omega arith) (λ h. absurd (omega arith)),
     rw onStage-took
         (moves inv a c same (tame-same a) (s .R) (suc (s .C)) (suc (p .count)) (suc (p .count)) (ap suc (inv .counted)) (setP a (restaged (p .cl a) 8 (suc (p .count))) (p .cl))
         (setP-at a _ (p .cl)) (setP-off a _ (p .cl)) refl refl (late-step (s .cl a .stage) 8 (omega arith) (omega arith)) isopen (omega arith)
@@ -235,7 +243,7 @@ module _ {rows : ℕ} {s : State} {p : Plain} (inv : Inv rows s p) (a : ℕ) (is
       c = withCommit (s .cl a) 8 (suc (s .C))
 
   pub arm8 : s .cl a .stage ≡ 8 → Good rows s p (Advance a) (step-to s a 9)
-  arm8 e = simply 9 (omega arith) (omega arith) (omega arith) (omega arith)
+  arm8 e = simply 9 (omega arith) (omega arith) (omega arith) (omega arith) (λ h. absurd (omega arith))
       (R-past (to 9) same (tame-same a) (λ d. refl) refl (s .C) le (omega arith) (omega arith) refl refl)
       (C-own (to 9) same (tame-same a) refl (s .R) (s .C) le le (λ d. refl) (omega (arith, cph-in (s .cl a .stage) (omega arith))) refl
       (λ h. absurd (omega (arith, cph-in 9 (omega arith)))) (λ h. absurd (omega (arith, cph-in 9 (omega arith)))))
@@ -246,7 +254,7 @@ module _ {rows : ℕ} {s : State} {p : Plain} (inv : Inv rows s p) (a : ℕ) (is
 
   pub arm9 : s .cl a .stage ≡ 9 → Good rows s p (Advance a) (listC s a)
   unfolding listC
-  arm9 e = goes c same (tame-same a) (s .R) (omega arith) refl refl refl (omega arith) (omega arith) (omega arith)
+  arm9 e = goes c same (tame-same a) (s .R) (omega arith) refl refl refl (omega arith) (omega arith) (omega arith) (λ h. absurd (omega arith))
       (R-past c same (tame-same a) (λ d. refl) refl (s .C) le (omega arith) (omega arith) refl refl)
       (C-own c same (tame-same a) refl (s .R) (s .C) le le (λ d. refl) (omega (arith, cph-in (s .cl a .stage) (omega arith))) refl
       (λ _ b n hb r l. listing-has (cph s) {P = λ _. Unit {0}} (λ _. yes tt) a b (cph-below b (omega arith)) n (omega arith) tt)
@@ -259,7 +267,7 @@ module _ {rows : ℕ} {s : State} {p : Plain} (inv : Inv rows s p) (a : ℕ) (is
   unfolding lookC
   arm10 e =
       ite-elim (Good rows s p (Advance a)) (ℕ-discrete (count clients w) 0)
-      (λ z. goes (c 11) same (tame-same a) (s .R) (omega arith) refl refl refl (omega arith) (omega arith) (omega arith)
+      (λ z. goes (c 11) same (tame-same a) (s .R) (omega arith) refl refl refl (omega arith) (omega arith) (omega arith) (λ h. absurd (omega arith))
       (R-past (c 11) same (tame-same a) (λ d. refl) refl (s .C) le (omega arith) (omega arith) refl refl)
       (C-own (c 11) same (tame-same a) refl (s .R) (s .C) le le (λ d. refl) (omega (arith, cph-in (s .cl a .stage) (omega arith))) refl
       (λ h. absurd (omega (arith, cph-in 11 (omega arith))))
@@ -281,6 +289,6 @@ module _ {rows : ℕ} {s : State} {p : Plain} (inv : Inv rows s p) (a : ℕ) (is
           ∙ inv .cq .listed b a n hb (omega (arith, cph-in (s .cl a .stage) (omega arith))) r l
 
   pub arm12 : s .cl a .stage ≡ 12 → Good rows s p (Advance a) (out (withClients s (put a (atStage (clearC a (s .cl a)) 13) (clearC a) (s .cl))) (Answered (Stage 13)))
-  arm12 e = goes (atStage (clearC a (s .cl a)) 13) (clearC a) (tame-C a) (s .R) (omega arith) refl refl refl (omega arith) (omega arith) (omega arith)
+  arm12 e = goes (atStage (clearC a (s .cl a)) 13) (clearC a) (tame-C a) (s .R) (omega arith) refl refl refl (omega arith) (omega arith) (omega arith) (λ h. absurd (omega arith))
       (R-past (atStage (clearC a (s .cl a)) 13) (clearC a) (tame-C a) (λ d. refl) refl (s .C) le (omega arith) (omega arith) refl refl)
       (C-low (atStage (clearC a (s .cl a)) 13) (clearC a) (tame-C a) refl (s .R) (s .C) le le (omega (arith, cph-out 13 (omega arith))))

@@ -11,7 +11,7 @@ use native.Mathlib.Omega.{arith}
 use lib.ListN.{length}
 use Rattle.spec.proofs.Lists.{in-nil, in-case, in-one, in-left, append-case, ite-elim, none-some, option-case, drop?, drop-in, first, first-in, first-none, first-append, first-keep, orNext}
 use Rattle.spec.proofs.Model.{DRow, CRow, find, valueAt, numOf, numberAt, replace, some?, without}
-use Rattle.spec.proofs.Plain.{Entry, newer, lastOf}
+use Rattle.spec.proofs.Plain.{Entry, newer, older, lastOf}
 use Rattle.spec.proofs.Invariant.{Uniq, Rising, upTo, whole}
 use Rattle.spec.specs.Table.{Value, orElse}
 
@@ -35,6 +35,15 @@ newer-none (e ∷ l) = if-neg (decLe (suc (length l)) (length l)) (λ h. omega a
 pub newer-cons : (n : ℕ) (e : Entry) (l : List Entry) → n ≤ length l → newer n (e ∷ l) ≡ e ∷ newer n l
 unfolding newer
 newer-cons n e l h = if-pos (decLe n (length l)) h _ _
+
+pub older-all : (book : List Entry) → older (length book) book ≡ book
+unfolding older
+older-all [] = refl
+older-all (e ∷ l) = if-neg (decLe (suc (length l)) (length l)) (λ h. omega arith) _ _
+
+pub older-cons : (n : ℕ) (e : Entry) (l : List Entry) → n ≤ length l → older n (e ∷ l) ≡ older n l
+unfolding older
+older-cons n e l h = if-pos (decLe n (length l)) h _ _
 
 pub upTo-whole : (S : ℕ) (book : List Entry) (x : ℕ) → ((e : Entry) → In e book → e .number ≤ S) → upTo S book x ≡ whole book x
 unfolding upTo whole
@@ -130,6 +139,12 @@ row-find t x d r i p q = option-case (find t x d) (λ e. absurd (find-none t x d
 
 pub none-found : (t x : ℕ) (d : List DRow) → ((r : DRow) → In r d → r .tag ≡ t → ⊥) → find t x d ≡ none
 none-found t x d h = option-case (find t x d) (λ e. e) (λ v e. let r = find-row t x d v e in absurd (h (r .0) (r .1) (r .2)))
+
+pub without-none : (t : ℕ) (d : List DRow) → (((r : DRow) × In r d × (r .tag ≡ t)) → ⊥) → without t d ≡ d
+unfolding without drop?
+without-none t [] n = refl
+without-none t (r ∷ d) n =
+    if-neg (ℕ-discrete (r .tag) t) (λ e. n (r, here refl, e)) _ _ ∙ ap (λ (l : List DRow). r ∷ l) (without-none t d (λ h. n (h .0, there (h .1), h .2)))
 
 pub find-uniq : (d : List DRow) → Uniq d → (r : DRow) → In r d → find (r .tag) (r .cell) d ≡ some (r .value)
 unfolding find first

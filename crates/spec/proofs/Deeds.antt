@@ -4,7 +4,7 @@
 -- Assumes nothing.
 use Prim.Native.Nat.{ℕ, zero, suc, _-_, min, _≤_, _<_}
 use mathlib.Core.Path.{_≡_, refl, sym, _∙_, ap, subst}
-use mathlib.Core.Logic.{_≢_, if-pos, if-neg, by-cases}
+use mathlib.Core.Logic.{_≢_, inl, inr, if-pos, if-neg, by-cases}
 use mathlib.Core.Bool.{true, false, true≢false}
 use mathlib.Core.List.{List, _∷_, List·Memᴰ·head as here, List·Memᴰ·tail as there}
 use mathlib.Core.Option.{Option, none, some, IsSome, Option·some-injective}
@@ -16,7 +16,8 @@ use Rattle.spec.proofs.Model.{newcomer, DRow, Client, State, find, rpha
 use Rattle.spec.proofs.Plain.{restaged, onProgress, opening, rewritten, Entry, PClient, Plain, NoClash, setP, plain, onBegin, onWrite, onAbandon, onAdvance, onStage, made, ended, none-yet, Shares}
 use Rattle.spec.proofs.Invariant.{Seen, view, lateness, Tab, One, Rel, Always, Inv}
 use Rattle.spec.proofs.Moves.{put-at, put-off, setP-at, setP-off, each, Tame, tame-same, tame-both, others-R, others-C, moves, seenOf, seen-off, seen-at, one-off}
-use Rattle.spec.proofs.Book.{is-some, find-row, row-find, find-without, Written, newer-cons}
+use Rattle.spec.proofs.Book.{is-some, find-row, row-find, none-found, find-without, without-none, Written, newer-cons}
+use Rattle.spec.proofs.Took.{HasRow}
 use Rattle.spec.proofs.Tables.{tab-done, tab-removed, tab-begun, tab-written, tab-committed, tab-trimmed, trimDat, was}
 use Rattle.spec.proofs.Lookups.{read-right, check-none, check-least, trim-count}
 use Rattle.spec.proofs.Arms.{Good, cph-in, onStage-moved, R-past, C-low, C-own, late-step}
@@ -127,15 +128,31 @@ module _ {rows : ℕ} {s : State} {p : Plain} (inv : Inv rows s p) (a : ℕ) whe
   pub arm13 : 1 ≤ s .cl a .number → s .cl a .stage ≡ 13 → Good rows s p (Advance a) (out (leave s a (s .dat)) (Answered (Done (s .cl a .commit))))
   unfolding plain onAdvance onProgress lateness
   arm13 isopen e = (
-    (inv .one a .live isopen, (inv .one a .on-stage ∙ e, sym (inv .one a .numbered (omega arith)), inv .one a .in-book (omega arith))),
+    (inv .one a .live isopen, inl (inv .one a .on-stage ∙ e, sym (inv .one a .numbered (omega arith)), inv .one a .in-book (omega arith))),
     leaves (s .dat) (λ b m k x i. i) (tab-done (inv .tab) a closed-view closed-num (omega arith)),
+  )
+
+  -- Client a ends with nothing written: it has no row to remove.
+  pub arm0-ends : 1 ≤ s .cl a .number → s .cl a .stage ≡ 0 → (HasRow (s .cl a .number) (s .dat) → ⊥) → Good rows s p (Advance a) (out (leave s a (s .dat)) (Answered (Done (s .cl a .snapshot))))
+  unfolding plain onAdvance onProgress lateness
+  arm0-ends isopen e n = (
+    (
+      inv .one a .live isopen,
+      inr (
+        inv .one a .on-stage ∙ e,
+        λ w. let z = is-some (p .cl a .writes (w .0)) (w .1) in
+            none-some (none-found (s .cl a .number) (w .0) (s .dat) (λ r i q. n (r, i, q))) (inv .tab .mine a isopen .held (omega arith) (w .0) ∙ z .1),
+        sym (inv .tab .mine a isopen .began),
+      ),
+    ),
+    subst (λ (d : List DRow). Inv rows (leave s a d) (ended p a)) (without-none (s .cl a .number) (s .dat) n) (leaves-removed isopen (omega arith)),
   )
 
   module _ (isopen : 1 ≤ s .cl a .number) (e : s .cl a .stage ≡ 5) where
     passes : NoClash p a → Good rows s p (Advance a) (checked s a none)
     unfolding checked plain onAdvance onProgress
     passes h = (
-      (inv .one a .live isopen, (omega (arith, inv .one a .on-stage), λ _. h, λ k. absurd (omega arith))),
+      (inv .one a .live isopen, (omega (arith, inv .one a .on-stage), λ k. absurd (omega arith), λ _. h, λ k. absurd (omega arith))),
       rw (onStage-moved p a 6 (omega arith) (omega arith))
           (moves inv a (atStage (s .cl a) 6) same (tame-same a) (s .R) (s .C) (p .count) (p .cl a .commit) (inv .counted) (setP a (restaged (p .cl a) 6 (p .cl a .commit)) (p .cl))
           (setP-at a _ (p .cl)) (setP-off a _ (p .cl)) refl refl (late-step (s .cl a .stage) 6 (omega arith) (omega arith)) isopen (omega arith)
@@ -195,6 +212,7 @@ module _ {rows : ℕ} {s : State} {p : Plain} (inv : Inv rows s p) (a : ℕ) whe
         inv .one a .live isopen,
         (
           omega (arith, inv .one a .on-stage),
+          λ k. absurd (omega arith),
           λ k. absurd (omega arith),
           λ _. (
             inv .one a .fresh (omega arith) (omega arith),

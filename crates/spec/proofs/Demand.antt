@@ -165,7 +165,7 @@ unfolding blank
 refused-right n w (Begin k) next = tt
 refused-right n w (Read k x) next = λ o e. absurd (none-some refl e)
 refused-right n w (Write k x v) next = tt
-refused-right n w (Advance k) next = λ o e. absurd (none-some refl e)
+refused-right n w (Advance k) next = refl
 refused-right n w (Abandon k) next = tt
 refused-right n w Trim next = tt
 refused-right n w Free next = tt

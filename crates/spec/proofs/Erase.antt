@@ -4,7 +4,7 @@
 -- Assumes nothing.
 use Prim.Native.Nat.{ℕ, zero, suc, _+_, _-_, _≤_}
 use mathlib.Core.Path.{_≡_, refl, sym, _∙_, ap, subst, fun-ext}
-use mathlib.Core.Logic.{_≢_, ite, if-pos, if-neg, by-cases}
+use mathlib.Core.Logic.{_≢_, inl, inr, ite, if-pos, if-neg, by-cases}
 use mathlib.Core.Bool.{Bool, true, false, false≢true}
 use mathlib.Core.List.{List, [], _∷_, _++_, List·Memᴰ as In, List·Memᴰ·head as here, List·Memᴰ·tail as there}
 use mathlib.Core.Option.{Option, none, some, IsSome}
@@ -12,8 +12,8 @@ use native.Mathlib.Decide.{ℕ-discrete, decLe}
 use native.Mathlib.Numerals.{add-one}
 use native.Mathlib.Omega.{arith}
 use borrow.Author.Tests.{eq-eqb, ne-eqb}
-use lib.ListN.{length, drop, length-append}
-use lib.Seq.{drop-append-le}
+use lib.ListN.{length, take, drop, length-append}
+use lib.Seq.{take-all, take-append-le, drop-append-le}
 use lib.Dec.{eqb}
 use Rattle.sets.specs.Choice.{if_then_else_}
 use Rattle.spec.specs.declared.Progress.{Progress}
@@ -27,7 +27,7 @@ use Rattle.spec.specs.Right.{lastNumber, valued, Clash, RightRefusal, Re
 use Rattle.spec.proofs.Lists.{in-nil, in-case, in-one, in-left, in-right, append-case, none-some, same-some}
 use Rattle.spec.proofs.Model.{some?}
 use Rattle.spec.proofs.Plain as own
-use Rattle.spec.proofs.Plain.{Entry, PClient, Plain, none-yet, restaged, opening, rewritten, onBegin, onWrite, onAbandon, onAdvance, onProgress, onStage, plain, lastOf, newer, filled}
+use Rattle.spec.proofs.Plain.{Entry, PClient, Plain, none-yet, restaged, opening, rewritten, onBegin, onWrite, onAbandon, onAdvance, onProgress, onStage, plain, lastOf, newer, older, filled}
 
 -- ---- the map
 
@@ -119,6 +119,15 @@ drop-aged n (e ∷ l) =
     (λ h. drop-append-le n (aged l) (commitOf e ∷ []) (omega (arith, length-aged l)) ∙ rw (drop-aged n l) (ap aged (sym (if-pos (decLe n (length l)) h (e ∷ newer n l) []))))
     (λ h. drop-all n (aged l ++ (commitOf e ∷ [])) (omega (arith, h, length-append (aged l) (commitOf e ∷ []), length-aged l))
     ∙ ap aged (sym (if-neg (decLe n (length l)) h (e ∷ newer n l) [])))
+
+take-aged : (n : ℕ) (l : List Entry) → take n (aged l) ≡ aged (older n l)
+unfolding aged older
+take-aged n [] = take-all n [] (omega arith)
+take-aged n (e ∷ l) =
+    by-cases (decLe n (length l))
+    (λ h. take-append-le n (aged l) (commitOf e ∷ []) (omega (arith, length-aged l)) ∙ take-aged n l ∙ ap aged (sym (if-pos (decLe n (length l)) h (older n l) (e ∷ l))))
+    (λ h. take-all n (aged l ++ (commitOf e ∷ [])) (omega (arith, h, length-append (aged l) (commitOf e ∷ []), length-aged l))
+    ∙ ap aged (sym (if-neg (decLe n (length l)) h (older n l) (e ∷ l))))
 
 aged-in : (e : Entry) (l : List Entry) → In e l → In (commitOf e) (aged l)
 unfolding aged
@@ -252,13 +261,21 @@ module _ (p : Plain) (k : ℕ) where
 
   progress : (a : Progress) → own.RightProgress p k a → r.RightProgress (erase p) (openOf (p .cl k)) a
   unfolding erase commitOf
-  progress (Stage g) h = (omega (arith, h .0), (λ e. no-clash (h .1 e), λ e. (no-clash (h .2 e .0), rw (last-aged (p .book)) (h .2 e .1))))
+  progress (Stage g) h = (
+    omega (arith, h .0),
+    (λ e. let w = h .1 e in (w .0, some-has (p .cl k .writes (w .0)) (w .1)), (λ e. no-clash (h .2 e), λ e. (no-clash (h .3 e .0), rw (last-aged (p .book)) (h .3 e .1)))),
+  )
   progress (Waiting n) h = h
   progress (Conflict n) h = (
     h .0,
     ((commitOf (h .1 .0), h .1 .1, clash-back (h .1 .0) (h .1 .2)), λ e c. let x = clash e c in rw (x .1) (h .2 (x .0) (x .2))),
   )
-  progress (Done n) h = (h .0, (h .1, (commitOf (h .2 .0), h .2 .2, aged-in (h .2 .0) (p .book) (h .2 .1))))
+  progress (Done n) (inl h) = inl record { from = h .0; number = h .1; booked = (commitOf (h .2 .0), h .2 .2, aged-in (h .2 .0) (p .book) (h .2 .1)) }
+  progress (Done n) (inr h) = inr record {
+    from = h .0;
+    nothing = λ w. h .1 (w .0, has-some (p .cl k .writes (w .0)) (w .1));
+    number = h .2 ∙ sym (ap lastNumber (take-aged (p .cl k .since) (p .book)) ∙ last-aged (older (p .cl k .since) (p .book)));
+  }
 
 module _ (rows w W : ℕ) (rises : w ≤ W) (p : Plain) where
   pub right : (q : Call) (a : Answer (Told q)) (free : ℕ) → own.Right rows W p q a free → r.Right rows w (erase p) q a (Answered free)
@@ -271,8 +288,7 @@ module _ (rows w W : ℕ) (rises : w ≤ W) (p : Plain) where
   right (Write k x v) (Answered n) free h = (openOf (p .cl k), live-some (p .cl k) (h .0), h .1)
   right (Write k x v) (Refused n) free h = six p k n h
   right (Advance k) (Answered a) free h = (openOf (p .cl k), live-some (p .cl k) (h .0), progress p k a (h .1))
-  right (Advance k) (Refused n) free h =
-      λ o e. let x = some-live (p .cl k) o e in let y = h (x .0) in (ap (λ (z : Open). z .stage) (sym (x .1)) ∙ y .0, y .1)
+  right (Advance k) (Refused n) free h = dead-none (p .cl k) h
   right (Abandon k) (Answered n) free h = (openOf (p .cl k), live-some (p .cl k) (h .0), h .1)
   right (Abandon k) (Refused n) free h = six p k n h
   right Trim (Answered n) free h =

@@ -14,7 +14,7 @@ use native.Mathlib.Decide.{decLe}
 use lib.ListN.{length}
 use Rattle.spec.proofs.Tickets.{Queue}
 use Rattle.spec.proofs.Model.{DRow, CRow, Client, State, find, numOf, rph, cph}
-use Rattle.spec.proofs.Plain.{Entry, PClient, Plain, Shares, newer, lastOf}
+use Rattle.spec.proofs.Plain.{Entry, PClient, Plain, Shares, newer, older, lastOf}
 use Rattle.spec.specs.Table.{Value, orElse}
 use Rattle.sets.specs.Set.{clients}
 use Rattle.spec.specs.Calls.{cells}
@@ -77,6 +77,7 @@ pub record Mine (dat : List DRow) (comm : List CRow) (last W : ℕ) (book : List
   pub is-newer : (e : Entry) → In e (newer (z .since) book) → In e book × (z .snap < e .number)
   pub newer-is : (e : Entry) → In e book → z .snap < e .number → In e (newer (z .since) book)
   pub copied : (x : ℕ) → z .copy x ≡ upTo (z .snap) book x
+  pub began : lastOf (older (z .since) book) ≡ z .snap
 
 pub record Tab (dat : List DRow) (comm : List CRow) (last W : ℕ) (table : ℕ → Option Value) (book : List Entry) (v : ℕ → Seen) : Type 0 where
   pub mine : (a : ℕ) → 1 ≤ v a .num → Mine dat comm last W book (v a)

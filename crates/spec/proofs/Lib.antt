@@ -3,6 +3,7 @@ pub mod House
 pub mod Ends
 pub mod Spread
 pub mod Wellformed
+pub mod Refusals
 pub mod Bridge
 pub mod Lists
 pub mod Tickets

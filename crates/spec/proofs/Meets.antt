@@ -11,7 +11,7 @@ use Rattle.spec.proofs.Lists.{ite-elim, option-case}
 use Rattle.spec.proofs.Tickets.{look, count}
 use Rattle.spec.proofs.Model.{newcomer, Client, closed, put, same, clearC, clearBoth, State, Out, rph, cph, smallest, checkKey, atStage, withRequest, withCommit, begun, overwritten, added, trimmed, takeR, takeC, listR, listC, lookR, lookC, checked, committed, fresh}
 use Rattle.spec.proofs.Moves.{Tame, tame-same, tame-C, tame-both, put-at, put-off}
-use Rattle.spec.proofs.Took.{Took, no-begin, no-read, no-write, no-advance, no-abandon, begins, reads, replaces, adds, at0, at1, at2, at3, at4, at5, at6, at7, at8, at9, at10, at11, at12, at13, abandons, trims, frees}
+use Rattle.spec.proofs.Took.{Took, no-begin, no-read, no-write, no-advance, no-abandon, begins, reads, replaces, adds, at0, ends0, at1, at2, at3, at4, at5, at6, at7, at8, at9, at10, at11, at12, at13, abandons, trims, frees}
 use Rattle.spec.specs.Answers.{Answer}
 use Rattle.spec.specs.declared.Progress.{Progress}
 use Rattle.spec.specs.Run.{Call}
@@ -111,6 +111,7 @@ module _ (s : State) (u : Under-state s) where
   keeps (replaces a x v hx op e k) = u
   keeps (adds a x v hx op e n) = u
   keeps (at0 a h op e k) = later a h (atStage (s .cl a) 1) same (tame-same a) refl (omega arith)
+  keeps (ends0 a h op e k) = gone a h
   keeps (at1 a h op e) =
       moved a h (withRequest (s .cl a) 2 (suc (s .R))) same (tame-same a) (suc (s .R)) (s .C) (s .W)
       (omega (arith, early-late 1 (withRequest (s .cl a) 2 (suc (s .R))) (omega arith), early-one 1 (s .cl a) op (omega arith)))

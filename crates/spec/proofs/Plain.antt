@@ -12,7 +12,7 @@ use lib.ListN.{length}
 use Rattle.spec.specs.declared.Begun.{Begun}
 use Rattle.spec.specs.declared.Progress.{Progress}
 use Rattle.spec.specs.declared.Progress.the-variants.{Stage, Waiting, Conflict, Done}
-use Rattle.spec.specs.Answers.{Answer, Answered, Refused, notOpen, nothingWritten}
+use Rattle.spec.specs.Answers.{Answer, Answered, Refused, notOpen}
 use Rattle.spec.specs.Calls.{cells}
 use Rattle.spec.specs.Run.{Call, Begin, Read, Write, Advance, Abandon, Trim, Free}
 use Rattle.spec.specs.Table.{Value, unwritten, put, orElse, over, Told}
@@ -126,6 +126,14 @@ unfoldable pub newer : ℕ → List Entry → List Entry
 newer n [] = []
 newer n (e ∷ l) = ite (decLe n (length l)) (e ∷ newer n l) []
 
+-- the commits in the book when it had n of them
+unfoldable pub older : ℕ → List Entry → List Entry
+older n [] = []
+older n (e ∷ l) = ite (decLe n (length l)) (older n l) (e ∷ l)
+
+abbrev pub Wrote : PClient → Type 0
+Wrote q = (x : ℕ) × IsSome (q .writes x)
+
 abbrev pub Shares : (ℕ → Option Value) → (ℕ → Option Value) → Type 0
 Shares u w = (x : ℕ) × IsSome (u x) × IsSome (w x)
 
@@ -159,14 +167,16 @@ RightFigure g p a (Answered n) = (p .cl a .live ≡ true) × (p .cl a .stage < g
 RightFigure g p a (Refused r) = Six p a r
 
 abbrev pub RightProgress : Plain → ℕ → Progress → Type 0
-RightProgress p a (Stage k) = (k ≡ suc (p .cl a .stage)) × (k ≡ 6 → NoClash p a) × (k ≡ 12 → NoClash p a × (lastOf (p .book) < p .cl a .commit))
+RightProgress p a (Stage k) = (k ≡ suc (p .cl a .stage)) × (k ≡ 1 → Wrote (p .cl a)) × (k ≡ 6 → NoClash p a) × (k ≡ 12 → NoClash p a × (lastOf (p .book) < p .cl a .commit))
 RightProgress p a (Waiting n) = (p .cl a .stage ≡ 4) ⊎ (p .cl a .stage ≡ 10)
 RightProgress p a (Conflict n) = (p .cl a .stage ≡ 5) × ((e : Entry) × (e .number ≡ n) × Clash p a e) × ((e : Entry) → Clash p a e → n ≤ e .number)
-RightProgress p a (Done n) = (p .cl a .stage ≡ 13) × (n ≡ p .cl a .commit) × ((e : Entry) × In e (p .book) × (e .number ≡ n))
+RightProgress p a (Done n) =
+    ((p .cl a .stage ≡ 13) × (n ≡ p .cl a .commit) × ((e : Entry) × In e (p .book) × (e .number ≡ n)))
+    ⊎ ((p .cl a .stage ≡ 0) × (Wrote (p .cl a) → ⊥) × (n ≡ lastOf (older (p .cl a .since) (p .book))))
 
 abbrev pub RightAdvance : Plain → ℕ → Answer Progress → Type 0
 RightAdvance p a (Answered g) = (p .cl a .live ≡ true) × RightProgress p a g
-RightAdvance p a (Refused r) = p .cl a .live ≡ true → (p .cl a .stage ≡ 0) × (r ≡ nothingWritten)
+RightAdvance p a (Refused r) = p .cl a .live ≡ false
 
 -- free is the free figure after the call
 abbrev pub RightTrim : ℕ → Plain → Answer ℕ → ℕ → Type 0

@@ -15,7 +15,7 @@ use Rattle.spec.proofs.Model.{DRow, CRow, Client, closed, put, same, cl
 use Rattle.spec.proofs.Plain.{Plain}
 use Rattle.spec.proofs.Invariant.{Inv, lateness}
 use Rattle.spec.proofs.Moves.{Tame, tame-same, tame-C, tame-both, put-at, put-off, each}
-use Rattle.spec.proofs.Took.{HasRow, Took, no-begin, no-read, no-write, no-advance, no-abandon, begins, reads, replaces, adds, at0, at1, at2, at3, at4, at5, at6, at7, at8, at9, at10, at11, at12, at13, abandons, trims, frees}
+use Rattle.spec.proofs.Took.{HasRow, Took, no-begin, no-read, no-write, no-advance, no-abandon, begins, reads, replaces, adds, at0, ends0, at1, at2, at3, at4, at5, at6, at7, at8, at9, at10, at11, at12, at13, abandons, trims, frees}
 use Rattle.spec.specs.Answers.{Answer}
 use Rattle.spec.specs.declared.Progress.{Progress}
 use Rattle.spec.specs.Run.{Call}
@@ -168,6 +168,7 @@ module _ {rows : ℕ} {s : State} {p : Plain} (inv : Inv rows s p) (u : Room-sta
     own = λ b y z w. let r = u .own b y z w in (r .0, in-left _ (r .1), r .2);
   }
   stays (at0 a h op e k) = moved a (atStage (s .cl a) 1) same (tame-same a) (λ x y z. k)
+  stays (ends0 a h op e k) = shut a
   stays (at1 a h op e) = later a (withRequest (s .cl a) 2 (suc (s .R))) same (tame-same a) refl op (omega arith) (omega arith)
   stays (at2 a h op e) = later a (atStage (s .cl a) 3) same (tame-same a) refl op (omega arith) (omega arith)
   stays (at3 a h op e) = later a _ same (tame-same a) refl op (omega arith) (omega arith)

@@ -101,6 +101,9 @@ tag-view t r = says-eq (tagOf r) t
 pub has-row : (t : ℕ) (ds : List Row) → any (hasTag t) ds ≡ true → HasRow t (map dataRowOf ds)
 has-row t ds e = says-true (any? (λ r. ℕ-discrete (r .tag) t) (map dataRowOf ds)) (any-view (λ r. ℕ-discrete (r .tag) t) (hasTag t) (tag-view t) ds ∙ e)
 
+pub no-row : (t : ℕ) (ds : List Row) → any (hasTag t) ds ≡ false → HasRow t (map dataRowOf ds) → ⊥
+no-row t ds e = says-false (any? (λ r. ℕ-discrete (r .tag) t) (map dataRowOf ds)) (any-view (λ r. ℕ-discrete (r .tag) t) (hasTag t) (tag-view t) ds ∙ e)
+
 pub removed-rows : (t : ℕ) (ds : List Row) → m.without t (map dataRowOf ds) ≡ map dataRowOf (filter (λ r. not (hasTag t r)) ds)
 unfolding m.without
 removed-rows t ds = drop-view dataRowOf (λ r. ℕ-discrete (r .tag) t) (λ r. not (hasTag t r)) (λ r. ap not (tag-view t r)) ds

@@ -16,7 +16,7 @@ use Rattle.spec.proofs.Model.{DRow, CRow, find, valueAt, numOf, numberA
 use Rattle.spec.proofs.Plain.{Entry, lastOf, written}
 use Rattle.spec.proofs.Invariant.{Seen, whole, Superseded, RowOf, Mine, Tab}
 use Rattle.spec.proofs.Moves.{each}
-use Rattle.spec.proofs.Book.{is-some, value-tag, find-row, none-found, find-uniq, uniq-drop, find-without, Written, book-max, newer-none, newer-cons, upTo-whole, upTo-skip, number-at, num-old, num-new, num-none, num-case}
+use Rattle.spec.proofs.Book.{is-some, value-tag, find-row, none-found, find-uniq, uniq-drop, find-without, Written, book-max, newer-none, newer-cons, older-all, older-cons, upTo-whole, upTo-skip, number-at, num-old, num-new, num-none, num-case}
 use Rattle.spec.specs.Table.{Value, put, orElse, over}
 use Rattle.spec.specs.Calls.{cells}
 use borrow.Author.Tests.{eq-eqb, ne-eqb}
@@ -98,6 +98,7 @@ module _ {dat : List DRow} {comm : List CRow} {last W : ℕ} {table : ℕ → Op
           is-newer = o .is-newer;
           newer-is = o .newer-is;
           copied = o .copied;
+          began = o .began;
         }));
     apart = apart-else (λ b m h. absurd (omega arith));
     comm-le = t .comm-le;
@@ -145,6 +146,7 @@ module _ {dat : List DRow} {comm : List CRow} {last W : ℕ} {table : ℕ → Op
           is-newer = λ e i. absurd (in-nil (rw (newer-none book) at i));
           newer-is = λ e i h. absurd (omega (arith, all-le e i));
           copied = λ x. t .all-table x ∙ sym (upTo-whole last book x all-le);
+          began = ap lastOf (older-all book) ∙ t .book-last;
         }))
         (λ b m. rw (else b m) (λ h. let o = t .mine b h in record {
           num-le = omega (arith, o .num-le);
@@ -155,6 +157,7 @@ module _ {dat : List DRow} {comm : List CRow} {last W : ℕ} {table : ℕ → Op
           is-newer = o .is-newer;
           newer-is = o .newer-is;
           copied = o .copied;
+          began = o .began;
         }));
     apart = apart-else (λ b m h. rw at (λ q. by-cases (decLe 1 (v b .num)) (λ k. omega (arith, t .mine b k .num-le)) (λ k. omega arith)));
     comm-le = λ u n e. let h = t .comm-le u n e in (omega arith, h .1);
@@ -187,6 +190,7 @@ module _ {dat : List DRow} {comm : List CRow} {last W : ℕ} {table : ℕ → Op
           is-newer = o .is-newer;
           newer-is = o .newer-is;
           copied = o .copied;
+          began = o .began;
         }))
         (λ b m. rw (else b m) (λ h. let o = t .mine b h in record {
           num-le = o .num-le;
@@ -197,6 +201,7 @@ module _ {dat : List DRow} {comm : List CRow} {last W : ℕ} {table : ℕ → Op
           is-newer = o .is-newer;
           newer-is = o .newer-is;
           copied = o .copied;
+          began = o .began;
         }));
     apart = apart-else (λ b m h. rw at (λ q. t .apart a b (λ z. m (sym z)) isopen (sym q)));
     comm-le = t .comm-le;
@@ -256,6 +261,7 @@ module _ {dat : List DRow} {comm : List CRow} {last W : ℕ} {table : ℕ → Op
           (λ j. let k = o .is-newer e j in (there (k .0), k .1));
       newer-is = λ e i k. rw (newer-cons (z .since) entry book (o .since-le)) (in-case i here (λ j. there (o .newer-is e j k)));
       copied = λ x. o .copied x ∙ sym (upTo-skip (z .snap) entry book x (omega (arith, o .snap-le)));
+      began = ap lastOf (older-cons (z .since) entry book (o .since-le)) ∙ o .began;
     }
 
     pub tab-committed : Tab dat comm′ n W (over (v a .writes) table) (entry ∷ book) v′
@@ -291,6 +297,7 @@ module _ {dat : List DRow} {comm : List CRow} {last W : ℕ} {table : ℕ → Op
           is-newer = o .is-newer;
           newer-is = o .newer-is;
           copied = o .copied;
+          began = o .began;
         }
 
         bounds : (u m : ℕ) → (numOf u comm ≡ some m) ⊎ ((numOf u comm ≡ none) × (u ≡ v a .num) × (n ≡ m)) → (u ≤ W) × (m ≤ n)
@@ -384,6 +391,7 @@ module _ {dat : List DRow} {comm : List CRow} {last W : ℕ} {table : ℕ → Op
       is-newer = o .is-newer;
       newer-is = o .newer-is;
       copied = o .copied;
+      began = o .began;
     };
     apart = t .apart;
     comm-le = λ u n e. t .comm-le u n (num-sub u n e);

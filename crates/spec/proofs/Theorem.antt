@@ -21,8 +21,8 @@ use Rattle.spec.proofs.Plain.{Plain, Six, plain, onBegin, onWrite, onAb
 use Rattle.spec.proofs.Invariant.{Inv, whole}
 use Rattle.spec.proofs.Book.{write-added, write-replaced}
 use Rattle.spec.proofs.Arms.{Good, arm0, arm1, arm2, arm3, arm4, arm6, arm7, arm8, arm9, arm10, arm12, cph-in}
-use Rattle.spec.proofs.Deeds.{begin-good, read-good, write-good, abandon-good, arm5, arm11, arm13, trim-good}
-use Rattle.spec.proofs.Took.{Took, no-begin, no-read, no-write, no-advance, no-abandon, begins, reads, replaces, adds, at0, at1, at2, at3, at4, at5, at6, at7, at8, at9, at10, at11, at12, at13, abandons, trims, frees}
+use Rattle.spec.proofs.Deeds.{begin-good, read-good, write-good, abandon-good, arm0-ends, arm5, arm11, arm13, trim-good}
+use Rattle.spec.proofs.Took.{Took, no-begin, no-read, no-write, no-advance, no-abandon, begins, reads, replaces, adds, at0, ends0, at1, at2, at3, at4, at5, at6, at7, at8, at9, at10, at11, at12, at13, abandons, trims, frees}
 
 module _ {rows : ℕ} {s : State} {p : Plain} (inv : Inv rows s p) where
   -- the refusal 6 says that nothing is open
@@ -38,13 +38,14 @@ module _ {rows : ℕ} {s : State} {p : Plain} (inv : Inv rows s p) where
   good (no-begin a r n) = (λ e. absurd (n e), inv)
   good (no-read a x r n) = (λ l. subst (λ (g : ℕ). ReadRefusal x g r) (sym (inv .one a .on-stage)) (n (is-open a l)), inv)
   good (no-write a x v r n) = (six a r n, inv)
-  good (no-advance a r n) = (λ l. let h = n (is-open a l) in (inv .one a .on-stage ∙ h .0, h .1), inv)
+  good (no-advance a r n) = (inv .one a .dead n, inv)
   good (no-abandon a r n) = (six a r n, inv)
   good (begins a h was w) = begin-good inv a h was
   good (reads a x hx o e) = read-good inv a x hx o e
   good (replaces a x v hx o e k) = write-good inv a x v hx o e _ (write-replaced (s .cl a .number) x v (s .dat) k)
   good (adds a x v hx o e n) = write-good inv a x v hx o e _ (write-added (s .cl a .number) x v (s .dat) n)
-  good (at0 a h o e k) = arm0 inv a o e
+  good (at0 a h o e k) = arm0 inv a o e k
+  good (ends0 a h o e k) = arm0-ends inv a o e k
   good (at1 a h o e) = arm1 inv a o e
   good (at2 a h o e) = arm2 inv a o e
   good (at3 a h o e) = arm3 inv a o e
@@ -86,6 +87,7 @@ module _ {s : State} {w : ℕ} (n : Numbered w (s .W)) where
   numbered (replaces a x v hx o e k) = n
   numbered (adds a x v hx o e k) = n
   numbered (at0 a h o e k) = n
+  numbered (ends0 a h o e k) = n
   numbered (at1 a h o e) = n
   numbered (at2 a h o e) = n
   numbered (at3 a h o e) = n

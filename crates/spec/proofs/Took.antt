@@ -10,7 +10,7 @@ use mathlib.Core.List.{List, List·Memᴰ as In}
 use mathlib.Core.Option.{none, IsSome}
 use Rattle.sets.specs.Set.{clients}
 use Rattle.spec.specs.declared.Progress.the-variants.{Stage, Done}
-use Rattle.spec.specs.Answers.{Answer, Answered, Refused, notOpen, nothingWritten}
+use Rattle.spec.specs.Answers.{Answer, Answered, Refused, notOpen}
 use Rattle.spec.specs.Calls.{cells, top}
 use Rattle.spec.specs.Run.{Call, Begin, Read, Write, Advance, Abandon, Trim, Free}
 use Rattle.spec.specs.Table.{Value, Told}
@@ -26,7 +26,7 @@ pub data Took (s : State) : (q : Call) → Out (Answer (Told q)) → Type 0 wher
   no-begin : (a r : ℕ) → r ≢ notOpen → Took s (Begin a) (out s (Refused r))
   no-read : (a x r : ℕ) → (1 ≤ s .cl a .number → ReadRefusal x (s .cl a .stage) r) → Took s (Read a x) (out s (Refused r))
   no-write : (a x : ℕ) (v : Value) (r : ℕ) → (r ≡ notOpen → s .cl a .number ≡ 0) → Took s (Write a x v) (out s (Refused r))
-  no-advance : (a r : ℕ) → (1 ≤ s .cl a .number → (s .cl a .stage ≡ 0) × (r ≡ nothingWritten)) → Took s (Advance a) (out s (Refused r))
+  no-advance : (a r : ℕ) → s .cl a .number ≡ 0 → Took s (Advance a) (out s (Refused r))
   no-abandon : (a r : ℕ) → (r ≡ notOpen → s .cl a .number ≡ 0) → Took s (Abandon a) (out s (Refused r))
   begins : (a : ℕ) → a < clients → s .cl a .number ≡ 0 → s .W < top → Took s (Begin a) (begun s a)
   reads : (a x : ℕ) → x < cells → 1 ≤ s .cl a .number → s .cl a .stage ≤ 11 → Took s (Read a x) (out s (Answered (lookup s a x)))
@@ -35,6 +35,8 @@ pub data Took (s : State) : (q : Call) → Out (Answer (Told q)) → Type 0 wher
   adds : (a x : ℕ) (v : Value) → x < cells → 1 ≤ s .cl a .number → s .cl a .stage ≡ 0 → find (s .cl a .number) x (s .dat) ≡ none
       → Took s (Write a x v) (added s a x v)
   at0 : (a : ℕ) → a < clients → 1 ≤ s .cl a .number → s .cl a .stage ≡ 0 → HasRow (s .cl a .number) (s .dat) → Took s (Advance a) (step-to s a 1)
+  ends0 : (a : ℕ) → a < clients → 1 ≤ s .cl a .number → s .cl a .stage ≡ 0 → (HasRow (s .cl a .number) (s .dat) → ⊥)
+      → Took s (Advance a) (out (leave s a (s .dat)) (Answered (Done (s .cl a .snapshot))))
   at1 : (a : ℕ) → a < clients → 1 ≤ s .cl a .number → s .cl a .stage ≡ 1 → Took s (Advance a) (takeR s a)
   at2 : (a : ℕ) → a < clients → 1 ≤ s .cl a .number → s .cl a .stage ≡ 2 → Took s (Advance a) (step-to s a 3)
   at3 : (a : ℕ) → a < clients → 1 ≤ s .cl a .number → s .cl a .stage ≡ 3 → Took s (Advance a) (listR s a)

@@ -28,7 +28,7 @@ use Rattle.spec.specs.declared.Progress.{Progress}
 use Rattle.spec.specs.Answers.{Answer}
 use Rattle.spec.specs.Image.{Clients, Image, setStage, setRequest, setCommit, setBlockers, setAhead, cleared, unlisted, opened, closed, zeros, empty, numberOf, snapshotOf, requestOf, stageOf, commitNumberOf, isOpen}
 use Rattle.spec.specs.Calls.{Outcome, cells, top, free, begun, begin, read, replaced, added, stored, write, removed, abandon, low, trimmedTo, trim}
-use Rattle.spec.specs.Steps.{requests, commits, struck, others, goOn, enter, takeRequest, listRequests, looked, lookRequests, checked, check, takeCommit, listCommits, lookCommits, addCommit, leaveCommits, leaveRequests, steps, noStep, advance}
+use Rattle.spec.specs.Steps.{requests, commits, struck, others, goOn, finished, enter, takeRequest, listRequests, looked, lookRequests, checked, check, takeCommit, listCommits, lookCommits, addCommit, leaveCommits, leaveRequests, steps, noStep, advance}
 use Rattle.spec.specs.Run.{Call, Begin, Read, Write, Advance, Abandon, Trim, Free, perform}
 
 -- ---- arrays
@@ -261,11 +261,11 @@ module _ (i : Image) (h : Wellformed i) where
 abbrev Keeps : (ℕ → Image → Outcome Progress) → Type 0
 Keeps f = (k : ℕ) (i : Image) → Wellformed i → Kept i (f k i)
 
-abbrev Each : {A : Type 0} → (A → Type 0) → List A → Type 0
+abbrev pub Each : {A : Type 0} → (A → Type 0) → List A → Type 0
 Each Q [] = Unit {0}
 Each Q (a ∷ l) = Q a × Each Q l
 
-each-at : {A : Type 0} (Q : A → Type 0) (l : List A) (d : A) → Each Q l → Q d → (n : ℕ) → Q (getD l n d)
+pub each-at : {A : Type 0} (Q : A → Type 0) (l : List A) (d : A) → Each Q l → Q d → (n : ℕ) → Q (getD l n d)
 each-at Q [] d h g n = g
 each-at Q (a ∷ l) d h g zero = h .0
 each-at Q (a ∷ l) d h g (suc n) = each-at Q l d (h .1) g n
@@ -275,8 +275,8 @@ unfolding goOn
 goOn-kept g l k i h = kept (fine-clients h _ (tidy-stage (h .tidy) k g l)) refl
 
 enter-kept : Keeps enter
-unfolding enter
-enter-kept k i h = kept-if (not (any (hasTag (numberOf i k)) (i .dataRows))) (kept h refl) (goOn-kept 1 (omega arith) k i h)
+unfolding enter finished
+enter-kept k i h = kept-if (not (any (hasTag (numberOf i k)) (i .dataRows))) (kept (fine-clients h _ (tidy-closed (h .tidy) k)) refl) (goOn-kept 1 (omega arith) k i h)
 
 takeRequest-kept : Keeps takeRequest
 unfolding takeRequest goOn
@@ -338,7 +338,7 @@ unfolding leaveCommits goOn
 leaveCommits-kept k i h = kept (fine-clients h _ (tidy-stage (tidy-unlisted (h .tidy) k) k 13 (omega arith))) refl
 
 leaveRequests-kept : Keeps leaveRequests
-unfolding leaveRequests
+unfolding leaveRequests finished
 leaveRequests-kept k i h = kept (fine-clients h _ (tidy-closed (h .tidy) k)) refl
 
 steps-kept : Each Keeps steps

@@ -13,7 +13,6 @@ use Rattle.spec.specs.declared.Refusal.the-variants.{
   NumbersUsedUp,
   CellLimit,
   NoFreeRow,
-  NothingWritten,
   WrongLength,
 }
 use Rattle.spec.specs.declared.Begun.{Begun}
@@ -65,8 +64,7 @@ cellLimit = 9
 abbrev pub noFreeRow : ℕ
 noFreeRow = 10
 
-abbrev pub nothingWritten : ℕ
-nothingWritten = 11
+-- 11 is unused: document 02, 2, "Refusal 11 never occurs any more."
 
 abbrev pub wrongLength : ℕ
 wrongLength = 12
@@ -88,7 +86,6 @@ code WrongStage = wrongStage
 code NumbersUsedUp = numbersUsedUp
 code CellLimit = cellLimit
 code NoFreeRow = noFreeRow
-code NothingWritten = nothingWritten
 code WrongLength = wrongLength
 
 abbrev pub figureOf : FigureAnswer → Answer ℕ

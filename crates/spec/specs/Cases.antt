@@ -1,6 +1,6 @@
 -- The house cases of document 01 that are marked P, as rows of one table (case 1 with the read that document 02, 1 changes), two rows more for
--- mistakes of its list that these eight let pass, and one row for document 02, 1. Each row has the lines that are put in, each with the line
--- that is to come out. proofs/House.antt proves the whole table.
+-- mistakes of its list that these eight let pass, and rows for document 02: one for 1, two for 2. Each row has the lines that are put in, each
+-- with the line that is to come out. proofs/House.antt proves the whole table.
 -- Assumes nothing.
 use Prim.Native.Nat.{ℕ, zero, suc, _+_}
 use Prim.Native.String.{String}
@@ -276,6 +276,58 @@ cases =
           ∷ "(advance 0)" ⇒ "(advance 0 (done 3))"
           ∷ "(begin 0)" ⇒ "(begin 0 (number 6) (snapshot 3))"
           ∷ "(read 0 5)" ⇒ "(read 0 5 (value ffeeddccbbaa99887766554433221100))"
+          ∷ []);
+    }
+    ∷ record {
+      name = "an enquiry in a new store";
+      exchanges =
+          ("(set-up 2 1 0)" ⇒ "(set-up (free 2))"
+          ∷ "(begin 0)" ⇒ "(begin 0 (number 1) (snapshot 0))"
+          ∷ "(read 0 7)" ⇒ "(read 0 7 (unwritten))"
+          ∷ "(advance 0)" ⇒ "(advance 0 (done 0))"
+          -- it is closed, and the client can begin again at once
+          ∷ "(advance 0)" ⇒ "(advance 0 (refused 6))"
+          ∷ "(read 0 7)" ⇒ "(read 0 7 (refused 6))"
+          ∷ "(begin 0)" ⇒ "(begin 0 (number 2) (snapshot 0))"
+          -- a refused write has written nothing
+          ∷ "(write 0 1024 000102030405060708090a0b0c0d0e0f)" ⇒ "(write 0 1024 (refused 4))"
+          ∷ "(advance 0)" ⇒ "(advance 0 (done 0))"
+          ∷ []);
+    }
+    ∷ record {
+      name = "enquiries while a commit is under way";
+      exchanges =
+          -- cell 7 is committed under 1; client 1 begins an enquiry, client 2 a change of the cell that it reads
+          ("(set-up 4 1 0)" ⇒ "(set-up (free 4))"
+          ∷ "(begin 0)" ⇒ "(begin 0 (number 1) (snapshot 0))"
+          ∷ "(write 0 7 000102030405060708090a0b0c0d0e0f)" ⇒ "(write 0 7 (free 3))"
+          ∷ [])
+          ++ stages 0 1 13
+          ++ ("(advance 0)" ⇒ "(advance 0 (done 1))"
+          ∷ "(begin 1)" ⇒ "(begin 1 (number 2) (snapshot 1))"
+          ∷ "(begin 2)" ⇒ "(begin 2 (number 3) (snapshot 1))"
+          ∷ "(write 2 7 ffeeddccbbaa99887766554433221100)" ⇒ "(write 2 7 (free 2))"
+          ∷ [])
+          -- client 2 makes its list and looks: nobody waits for an enquiry
+          ++ stages 2 1 8
+          ++ ("(read 1 7)" ⇒ "(read 1 7 (value 000102030405060708090a0b0c0d0e0f))"
+          -- it waits for nobody either, and client 1 can begin again at once
+          ∷ "(advance 1)" ⇒ "(advance 1 (done 1))"
+          ∷ "(begin 1)" ⇒ "(begin 1 (number 4) (snapshot 1))"
+          ∷ [])
+          ++ stages 2 9 5
+          ++ ("(advance 2)" ⇒ "(advance 2 (done 2))"
+          -- the last commit is 2 now, but not that of the snapshot
+          ∷ "(read 1 7)" ⇒ "(read 1 7 (value 000102030405060708090a0b0c0d0e0f))"
+          ∷ "(advance 1)" ⇒ "(advance 1 (done 1))"
+          ∷ "(begin 1)" ⇒ "(begin 1 (number 5) (snapshot 2))"
+          ∷ "(advance 1)" ⇒ "(advance 1 (done 2))"
+          -- no commit number was taken: the next commit has the next one
+          ∷ "(begin 0)" ⇒ "(begin 0 (number 6) (snapshot 2))"
+          ∷ "(write 0 8 000102030405060708090a0b0c0d0e0f)" ⇒ "(write 0 8 (free 1))"
+          ∷ [])
+          ++ stages 0 1 13
+          ++ ("(advance 0)" ⇒ "(advance 0 (done 3))"
           ∷ []);
     }
     ∷ []

@@ -6,16 +6,16 @@ use mathlib.Core.Logic.{_≢_, _⊎_}
 use mathlib.Core.Bool.{Bool, true, false}
 use mathlib.Core.List.{List, [], _∷_, List·Memᴰ}
 use mathlib.Core.Option.{Option, none, some}
-use lib.ListN.{length, drop}
+use lib.ListN.{length, take, drop}
 use Rattle.sets.specs.Choice.{if_then_else_}
 use Rattle.rows.specs.Rows.{rowsIn}
 use Rattle.spec.specs.declared.Begun.{Begun}
 use Rattle.spec.specs.declared.Progress.{Progress}
 use Rattle.spec.specs.declared.Progress.the-variants.{Stage, Waiting, Conflict, Done}
-use Rattle.spec.specs.Answers.{Answer, Answered, Refused, unfit, noCell, notOpen, wrongStage, nothingWritten}
+use Rattle.spec.specs.Answers.{Answer, Answered, Refused, unfit, noCell, notOpen, wrongStage}
 use Rattle.spec.specs.Calls.{cells}
 use Rattle.spec.specs.Bytes.{fits, After}
-use Rattle.spec.specs.Run.{Call, Begin, Read, Write, Advance, Abandon, Trim, Free, Gives, Memory, memoryOf, takes}
+use Rattle.spec.specs.Run.{Call, Begin, Read, Write, Advance, Abandon, Trim, Free, Gives, refusals, Listed, Memory, memoryOf, takes}
 use Rattle.spec.specs.Table.{Value, Values, has, Commit, Open, Table, blank, orElse, Told, told, tell}
 
 -- ---- the words of the demands
@@ -43,20 +43,39 @@ unfoldable pub valued : ℕ → Values → ℕ
 valued zero w = 0
 valued (suc n) w = (if has (w n) then 1 else 0) + valued n w
 
+-- the client has written a cell
+abbrev pub Wrote : Open → Type 0
+Wrote o = (x : ℕ) × (has (o .writes x) ≡ true)
+
+-- ---- Done with number n, to a client that was open: in one of two ways
+
+-- with its commit: "closed only by Done, which gives its commit number, by then in the book"
+pub record DoneCommitted (t : Table) (o : Open) (n : ℕ) : Type 0 where
+  pub from : o .stage ≡ 13
+  pub number : n ≡ o .commit
+  pub booked : (e : Commit) × (e .number ≡ n) × List·Memᴰ e (t .book)
+
+-- document 02, 2, without a change: "at stage 0 with nothing written"; "the number given is the last in the book when the client began, 0 if
+-- none"
+pub record DoneUnchanged (t : Table) (o : Open) (n : ℕ) : Type 0 where
+  pub from : o .stage ≡ 0
+  pub nothing : Wrote o → ⊥
+  pub number : n ≡ lastNumber (take (o .since) (t .book))
+
 -- ---- an Advance of an open client, by its answer
 
 abbrev pub RightProgress : Table → Open → Progress → Type 0
--- the stages follow document 01's table; the check passes with no such commit; the commit is made with no such commit but its own, and its
--- number is above all in the book ("Numbers in the book rise")
+-- the stages follow document 01's table; with nothing written stage 1 is never reached, so nothing of it "enters a queue" (document 02, 2); the
+-- check passes with no such commit; the commit is made with no such commit but its own, and its number is above all in the book ("Numbers in the
+-- book rise")
 RightProgress t o (Stage g) =
-    (g ≡ o .stage + 1) × ((g ≡ 6 → NoClash t o) × (g ≡ 12 → NoClash t o × (lastNumber (t .book) < o .commit)))
+    (g ≡ o .stage + 1) × ((g ≡ 1 → Wrote o) × ((g ≡ 6 → NoClash t o) × (g ≡ 12 → NoClash t o × (lastNumber (t .book) < o .commit))))
 -- Waiting is answered at stages 4 and 10 alone
 RightProgress t o (Waiting n) = (o .stage ≡ 4) ⊎ (o .stage ≡ 10)
 -- "it answers Conflict with the smallest number among the commits in the book since the client began that share a cell with its writes"
 RightProgress t o (Conflict n) =
     (o .stage ≡ 5) × (((e : Commit) × (e .number ≡ n) × Clash t o e) × ((e : Commit) → Clash t o e → n ≤ e .number))
--- "closed only by Done, which gives its commit number, by then in the book"
-RightProgress t o (Done n) = (o .stage ≡ 13) × ((n ≡ o .commit) × ((e : Commit) × (e .number ≡ n) × List·Memᴰ e (t .book)))
+RightProgress t o (Done n) = DoneCommitted t o n ⊎ DoneUnchanged t o n
 
 -- ---- an answer to a call of client k
 
@@ -87,11 +106,11 @@ abbrev pub RightFigure : ℕ → Table → ℕ → Answer ℕ → Type 0
 RightFigure g t k (Answered f) = (o : Open) × (t .clients k ≡ some o) × (o .stage < g)
 RightFigure g t k (Refused n) = RightRefusal (t .clients k) n
 
--- an Advance of an open client is refused at stage 0 alone, with 11: so the check is never refused, and a store grown from set-up never meets
--- the refusals 2 of Advance
+-- an Advance of an open client is never refused: neither with 11, which "never occurs any more" (document 02, 2), nor with 2: a store grown from
+-- set-up does not meet the refusals 2 of Advance
 abbrev pub RightAdvance : Table → ℕ → Answer Progress → Type 0
 RightAdvance t k (Answered a) = (o : Open) × (t .clients k ≡ some o) × RightProgress t o a
-RightAdvance t k (Refused n) = (o : Open) → t .clients k ≡ some o → (o .stage ≡ 0) × (n ≡ nothingWritten)
+RightAdvance t k (Refused n) = t .clients k ≡ none
 
 -- "After an answered Trim with no client open, the free figure, as Free would answer next, is the set-up's rows less the cells with a value in
 -- the table"
@@ -144,3 +163,8 @@ abbrev pub AllFit : Memory → List Call → Type 0
 AllFit m [] = Unit {0}
 AllFit m (q ∷ qs) =
     (fits (takes q m .store) (length (takes q m .dataBytes)) (length (takes q m .commitBytes)) ≡ true) × AllFit (memoryOf (takes q m)) qs
+
+-- every refused call of the list gets a number that document 01 has for it
+abbrev pub AllListed : Memory → List Call → Type 0
+AllListed m [] = Unit {0}
+AllListed m (q ∷ qs) = Listed (refusals q) (takes q m .answer) × AllListed (memoryOf (takes q m)) qs

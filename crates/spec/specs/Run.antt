@@ -1,11 +1,12 @@
 -- Lists of calls on a record and two buffers.
 -- Assumes nothing.
 use Prim.Native.Nat.{ℕ}
-use mathlib.Core.List.{List}
+use mathlib.Core.List.{List, [], _∷_, List·Memᴰ}
 use Rattle.spec.specs.declared.Store.{Store}
 use Rattle.spec.specs.declared.Begun.{Begun}
 use Rattle.spec.specs.declared.Reading.{Reading}
 use Rattle.spec.specs.declared.Progress.{Progress}
+use Rattle.spec.specs.Answers.{Answer, Answered, Refused}
 use Rattle.spec.specs.Image.{Image}
 use Rattle.spec.specs.Calls.{Outcome, free, begin, read, write, abandon, trim}
 use Rattle.spec.specs.Steps.{advance}
@@ -30,6 +31,21 @@ Gives (Advance k) = Progress
 Gives (Abandon k) = ℕ
 Gives Trim = ℕ
 Gives Free = ℕ
+
+-- "Refusal by operation": the numbers with which it may be refused, in their order. 11 stands nowhere: it "never occurs any more" (document 02, 2)
+abbrev pub refusals : Call → List ℕ
+refusals (Begin k) = 2 ∷ 3 ∷ 5 ∷ 8 ∷ []
+refusals (Read k x) = 2 ∷ 3 ∷ 4 ∷ 6 ∷ 7 ∷ []
+refusals (Write k x v) = 2 ∷ 3 ∷ 4 ∷ 12 ∷ 6 ∷ 7 ∷ 9 ∷ 10 ∷ []
+refusals (Advance k) = 2 ∷ 3 ∷ 6 ∷ []
+refusals (Abandon k) = 2 ∷ 3 ∷ 6 ∷ 7 ∷ []
+refusals Trim = 2 ∷ []
+refusals Free = 2 ∷ []
+
+-- a refusal is one of these
+abbrev pub Listed : {A : Type 0} → List ℕ → Answer A → Type 0
+Listed l (Answered a) = Unit {0}
+Listed l (Refused n) = List·Memᴰ n l
 
 -- what it makes of an image
 unfoldable pub perform : (q : Call) → Image → Outcome (Gives q)

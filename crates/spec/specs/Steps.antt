@@ -15,7 +15,7 @@ use Rattle.search.specs.Share.{any, shares, conflict}
 use Rattle.spec.specs.declared.Queue.{Queue}
 use Rattle.spec.specs.declared.Progress.{Progress}
 use Rattle.spec.specs.declared.Progress.the-variants.{Stage, Waiting, Conflict, Done}
-use Rattle.spec.specs.Answers.{unfit, noClient, notOpen, nothingWritten}
+use Rattle.spec.specs.Answers.{unfit, noClient, notOpen}
 use Rattle.spec.specs.Image.{
   Image,
   withClients,
@@ -70,10 +70,15 @@ others q k i = collect (λ j. not (eqb j k) && queued q (stageOf i j)) clients
 unfoldable pub goOn : ℕ → ℕ → Image → Outcome Progress
 goOn g k i = gives (withClients i (setStage k g (i .clients))) (Stage g)
 
--- 0: "enter the request queue"; "11 at stage 0 with nothing written"
+-- client k is closed, with Done and number n
+unfoldable pub finished : ℕ → ℕ → Image → Outcome Progress
+finished n k i = gives (withClients i (closed k (i .clients))) (Done n)
+
+-- 0: "enter the request queue"; document 02, 2: "Advance at stage 0 with nothing written now answers Done with the snapshot number and closes the
+-- transaction. Nothing enters a queue, and no number is taken."
 unfoldable pub enter : ℕ → Image → Outcome Progress
 enter k i =
-    if not (any (hasTag (numberOf i k)) (i .dataRows)) then refuse nothingWritten i else
+    if not (any (hasTag (numberOf i k)) (i .dataRows)) then finished (snapshotOf i k) k i else
     goOn 1 k i
 
 -- 1: "take a request number"; "taking a number adds 1 and gives the result"; "2 also if the R or C to be taken is already 4,294,967,295"
@@ -140,7 +145,7 @@ leaveCommits k i = goOn 13 k (withClients i (unlisted k (i .clients)))
 
 -- 13: "leave the request queue; closed"; "at 13, Done with its commit number"
 unfoldable pub leaveRequests : ℕ → Image → Outcome Progress
-leaveRequests k i = gives (withClients i (closed k (i .clients))) (Done (commitNumberOf i k))
+leaveRequests k i = finished (commitNumberOf i k) k i
 
 -- the step from each stage, 0 to 13. Steps 2, 6 and 8 only go on: a number is noted, and a queue entered, by the stage itself
 abbrev pub steps : List (ℕ → Image → Outcome Progress)

@@ -29,7 +29,7 @@ pub struct Store {
     pub ahead: [Set; CLIENTS],
 }
 
-// Why a call is refused; document 01's number of each is in specs/Answers.antt.
+// Why a call is refused; document 01's number of each is in specs/Answers.antt. 11 is unused.
 pub enum Refusal {
     BadSetUp,
     Unfit,
@@ -41,7 +41,6 @@ pub enum Refusal {
     NumbersUsedUp,
     CellLimit,
     NoFreeRow,
-    NothingWritten,
     WrongLength,
 }
 

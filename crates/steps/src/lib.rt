@@ -7,7 +7,7 @@ ghost use lib.ListN.{length, getD};
 ghost use Rattle.sets.specs.Set.{clients};
 ghost use Rattle.spec.specs.Answers.{Answer, advanceOf};
 ghost use Rattle.steps.specs.Removed.{Removed};
-ghost use Rattle.spec.specs.Steps.{requests as requestQueue, commits as commitQueue, goOn, enter, takeRequest, listRequests, looked, lookRequests, check, takeCommit, listCommits, lookCommits, addCommit, leaveCommits, leaveRequests, steps, noStep, advance};
+ghost use Rattle.spec.specs.Steps.{requests as requestQueue, commits as commitQueue, goOn, finished, enter, takeRequest, listRequests, looked, lookRequests, check, takeCommit, listCommits, lookCommits, addCommit, leaveCommits, leaveRequests, steps, noStep, advance};
 ghost use Rattle.spec.specs.Bytes.{seen, leaves, laidOut, fits, after};
 use search::Number;
 use sets::LIMIT;
@@ -66,7 +66,19 @@ fn go_on(store: Store, client: u32, stage: u32) -> AdvanceTurn
     }
 }
 
-// 0: enter the request queue.
+// The client is closed, with Done and a number.
+fn finish(store: Store, client: u32, number: u32) -> AdvanceTurn
+    requires { ⌜ client < clients ⌝ }
+    ensures { λ r. ⌜ ((d c : List ℕ) → leaves (r .store) d c (advanceOf (r .answer)) ≡ laidOut store d c (finished number client (seen store d c))) ⌝ }
+{
+    let closed = record::close(store, client);
+    AdvanceTurn {
+        store: closed,
+        answer: AdvanceAnswer::Answered(Progress::Done(number)),
+    }
+}
+
+// 0: enter the request queue; with nothing written the transaction is done at once.
 fn enter(store: Store, rows: &[u8], client: u32) -> AdvanceTurn
     requires { ⌜ client < clients ⌝ }
     requires { ⌜ 24 * store .used ≤ length (now rows) ⌝ }
@@ -77,7 +89,9 @@ fn enter(store: Store, rows: &[u8], client: u32) -> AdvanceTurn
     let number = numbers[k];
     let used = store.used as usize;
     if !search::has_rows(rows, used, number) {
-        return refuse(store, Refusal::NothingWritten);
+        let snapshots = store.snapshot;
+        let snapshot = snapshots[k];
+        return finish(store, client, snapshot);
     }
     go_on(store, client, 1)
 }
@@ -294,11 +308,7 @@ fn leave_requests(store: Store, client: u32) -> AdvanceTurn
     let k = client as usize;
     let commits = store.commit;
     let n = commits[k];
-    let next = record::close(store, client);
-    AdvanceTurn {
-        store: next,
-        answer: AdvanceAnswer::Answered(Progress::Done(n)),
-    }
+    finish(store, client, n)
 }
 
 // The one step that the client's stage calls for.

@@ -1,10 +1,9 @@
--- `steps::enter`: refused where the transaction has no row, else stage 1.
+-- `steps::enter`: done where the transaction has no row, else stage 1.
 -- Assumes nothing.
 use borrow.Author.Needs.{needs}
 use borrow.Author.Tests.{not-true, not-false}
 use Rattle.spec.specs.Bytes.{seen}
 use Rattle.spec.specs.Steps.{enter}
-use Rattle.spec.proofs.Ends.{stays}
 use Rattle.steps.proofs.enter.Statement.{statement}
 use Rattle.steps.proofs.enter.Tie as tie
 
@@ -20,14 +19,20 @@ cast-used c = search needs
 has-rows-requires : tie.Need-has-rows-requires
 has-rows-requires c κs = search needs
 
-refuse-requires : tie.Need-refuse-requires
-refuse-requires c κs = search needs
+mul-snapshot : tie.Need-mul-snapshot
+mul-snapshot c = search needs
+
+array-read-snapshot : tie.Need-array-read-snapshot
+array-read-snapshot c = search needs
+
+finish-requires : tie.Need-finish-requires
+finish-requires c κs = search needs
 
 returns : tie.Need-returns
 unfolding enter seen
 returns c =
-    let h = c .before .before .has-rows in
-    λ e. rw (c .refuse .ensures) (stays _ _ e _ _ (rw (← h .ensures, not-true (h .result) (c .before .if1 .taken))))
+    let h = c .before .before .before .has-rows in
+    λ e. rw (← h .ensures, not-true (h .result) (c .before .before .if1 .taken)) (c .finish .ensures _ e)
 
 go-on-requires : tie.Need-go-on-requires
 go-on-requires c κs = search needs
@@ -46,7 +51,9 @@ enter-spec =
     array-read-number
     cast-used
     has-rows-requires
-    refuse-requires
+    mul-snapshot
+    array-read-snapshot
+    finish-requires
     returns
     go-on-requires
     returns-2)

@@ -3,7 +3,6 @@
 use borrow.Author.Needs.{needs}
 use Rattle.spec.specs.Bytes.{seen}
 use Rattle.spec.specs.Steps.{leaveRequests}
-use Rattle.spec.proofs.Ends.{ends-same}
 use Rattle.steps.proofs.leave_requests.Statement.{statement}
 use Rattle.steps.proofs.leave_requests.Tie as tie
 
@@ -13,12 +12,12 @@ mul-n c = search needs
 array-read-n : tie.Need-array-read-n
 array-read-n c = search needs
 
-close-requires : tie.Need-close-requires
-close-requires c κs = search needs
+finish-requires : tie.Need-finish-requires
+finish-requires c κs = search needs
 
 returns : tie.Need-returns
 unfolding leaveRequests seen
-returns c = λ d e. rw (c .close .ensures) (ends-same _ d e _ _ _)
+returns c = c .finish .ensures
 
 pub leave-requests-spec : {M : Type 1} → statement M
-leave-requests-spec = tie.close (tie.spec mul-n array-read-n close-requires returns)
+leave-requests-spec = tie.close (tie.spec mul-n array-read-n finish-requires returns)

@@ -1,0 +1,18 @@
+-- `steps::finish`: the client is closed.
+-- Assumes nothing.
+use borrow.Author.Needs.{needs}
+use Rattle.spec.specs.Bytes.{seen}
+use Rattle.spec.specs.Steps.{finished}
+use Rattle.spec.proofs.Ends.{ends-same}
+use Rattle.steps.proofs.finish.Statement.{statement}
+use Rattle.steps.proofs.finish.Tie as tie
+
+close-requires : tie.Need-close-requires
+close-requires c κs = search needs
+
+returns : tie.Need-returns
+unfolding finished seen
+returns c = λ d e. rw (c .close .ensures) (ends-same _ d e _ _ _)
+
+pub finish-spec : {M : Type 1} → statement M
+finish-spec = tie.close (tie.spec close-requires returns)
