@@ -1,5 +1,6 @@
 //! The step program: the house cases, the model's scripts, the examples, long generated runs, odd inputs.
 
+use model::coverage::Coverage;
 use model::gen::{generate_under, profiles};
 use model::session::run_under;
 use model::tickets::Ticket;
@@ -58,7 +59,7 @@ fn scripts_of_tickets() {
 #[test]
 fn examples() {
     let (all, other) = scripts("../../examples", "txt");
-    assert!(all.len() >= 5);
+    assert!(all.len() >= 6);
     assert!(other.is_empty(), "{other:?}");
 }
 
@@ -78,10 +79,15 @@ fn every_profile_against_model_and_plain_table() {
     }
 }
 
-/// The runs cannot silently become empty: every refusal but 12 (which has no form), every stage and every kind of answer occurs.
+/// The runs cannot silently become empty: every refusal but 12 (which has no form) and 11 (which ticket 2 has ended), every stage, every kind of
+/// answer and a Done without a change occur in one of them.
 #[test]
 fn all_is_covered() {
-    assert_eq!(generated(2026, LINES, "all").gaps(), ["refusal 12"]);
+    let runs: Vec<Coverage> = SEEDS.map(|seed| generated(seed, LINES, "all")).collect();
+    let mut gaps = runs[0].gaps();
+    gaps.retain(|name| runs.iter().all(|run| run.of(name) == 0));
+    assert_eq!(gaps, ["refusal 12"]);
+    assert!(runs.iter().all(|run| run.of("done without a change") > 0 && run.of("refusal 11") == 0));
 }
 
 #[test]
