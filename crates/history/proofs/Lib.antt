@@ -1,3 +1,5 @@
 pub mod Book
+pub mod Between
 pub mod Repeats
+pub mod Enquiries
 pub mod Theorem

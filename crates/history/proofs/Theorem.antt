@@ -1,5 +1,6 @@
 -- Demand 3 holds for every set-up, refused or not, and every list of calls: crate spec has that every answer is right, with which numbers calls are
--- refused, and whether the store is fit; what is said of the book, the values and repeated reads follows from the answers being right.
+-- refused, and whether the store is fit; what is said of the book, the values, repeated reads and enquiries follows from the answers being
+-- right.
 -- w, the first W, is a number of 32 bits by its type.
 -- Assumes nothing.
 use Prim.Native.Nat.{ℕ, _≤_}
@@ -12,6 +13,7 @@ use Rattle.spec.proofs.Demand.{demand3, all-unfit, all-fit}
 use Rattle.history.specs.Demand.{Demand3}
 use Rattle.history.proofs.Book.{rising-run, valued-run}
 use Rattle.history.proofs.Repeats.{steady-run, unbroken-run}
+use Rattle.history.proofs.Enquiries.{enquiry-run}
 
 pub theorem : (d c : List ℕ) (w l : ℕ) → w ≤ 4294967295 → (qs : List Call) → Demand3 d c w l qs
 theorem d c w l h qs =
@@ -23,6 +25,7 @@ theorem d c w l h qs =
       valued = valued-run qs n 0 (memoryOf (setUp d c w l)) r;
       steady = steady-run qs n 0 blank (memoryOf (setUp d c w l)) r;
       unbroken = unbroken-run qs n 0 blank (memoryOf (setUp d c w l)) r;
+      enquiry = enquiry-run qs n 0 blank (memoryOf (setUp d c w l)) r;
       listed = all-listed qs (memoryOf (setUp d c w l));
       unfit = λ e. all-unfit d c w l e qs;
       fit = λ e. all-fit d c w l e qs;

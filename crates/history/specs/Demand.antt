@@ -8,6 +8,7 @@ use mathlib.Core.Bool.{true, false}
 use mathlib.Core.List.{List, [], _∷_, _++_, List·Memᴰ}
 use mathlib.Core.Option.{Option}
 use lib.ListN.{length}
+use Rattle.spec.specs.declared.Begun.{Begun}
 use Rattle.spec.specs.declared.Progress.{Progress}
 use Rattle.spec.specs.declared.Progress.the-variants.{Stage, Waiting, Conflict, Done}
 use Rattle.spec.specs.Answers.{Answered}
@@ -45,7 +46,7 @@ pub record Valued (x : ℕ) (t : Values) (l : List Commit) : Type 0 where
   pub ever : has (t x) ≡ true → Committed x l
   pub still : Committed x l → has (t x) ≡ true
 
--- ---- reads of one transaction
+-- ---- what happens between two calls of one transaction
 
 -- this progress does not end the transaction
 abbrev pub GoesOn : Progress → Type 0
@@ -61,20 +62,26 @@ Waits (Waiting n) = Unit {0}
 Waits (Conflict n) = ⊥
 Waits (Done n) = ⊥
 
--- a call so answered neither abandons the transaction of client k nor is a write of it to cell x; an Advance of k is answered as P says
-abbrev pub Spares : (Progress → Type 0) → ℕ → ℕ → (q : Call) → Told q → Type 0
-Spares P k x (Begin j) a = Unit {0}
-Spares P k x (Read j y) a = Unit {0}
-Spares P k x (Write j y v) a = j ≡ k → y ≢ x
-Spares P k x (Advance j) a = j ≡ k → P a
-Spares P k x (Abandon j) a = j ≢ k
-Spares P k x Trim a = Unit {0}
-Spares P k x Free a = Unit {0}
+-- a call so answered does not abandon the transaction of client k; a Write of k goes to a cell as W says, an Advance of k is answered as P says
+abbrev pub Spares : (ℕ → Type 0) → (Progress → Type 0) → ℕ → (q : Call) → Told q → Type 0
+Spares W P k (Begin j) a = Unit {0}
+Spares W P k (Read j y) a = Unit {0}
+Spares W P k (Write j y v) a = j ≡ k → W y
+Spares W P k (Advance j) a = j ≡ k → P a
+Spares W P k (Abandon j) a = j ≢ k
+Spares W P k Trim a = Unit {0}
+Spares W P k Free a = Unit {0}
 
 -- every answered call of the list is such a call
-abbrev pub Undisturbed : (Progress → Type 0) → ℕ → ℕ → Memory → List Call → Type 0
-Undisturbed P k x m [] = Unit {0}
-Undisturbed P k x m (q ∷ qs) = ((a : Told q) → tells q m ≡ Answered a → Spares P k x q a) × Undisturbed P k x (memoryOf (takes q m)) qs
+abbrev pub Undisturbed : (ℕ → Type 0) → (Progress → Type 0) → ℕ → Memory → List Call → Type 0
+Undisturbed W P k m [] = Unit {0}
+Undisturbed W P k m (q ∷ qs) = ((a : Told q) → tells q m ≡ Answered a → Spares W P k q a) × Undisturbed W P k (memoryOf (takes q m)) qs
+
+-- ---- reads of one transaction
+
+-- a cell other than x
+abbrev pub Besides : ℕ → ℕ → Type 0
+Besides x y = y ≢ x
 
 -- two answered reads of one client at one cell, in one transaction and with no write of it to the cell between them, give the same
 abbrev pub Steady : Memory → List Call → Type 0
@@ -82,7 +89,7 @@ Steady m qs =
     (k x : ℕ) (before between rest : List Call) (u v : Option Value)
     → qs ≡ before ++ (Read k x ∷ (between ++ (Read k x ∷ rest)))
     → tells (Read k x) (afterRun before m) ≡ Answered u
-    → Undisturbed GoesOn k x (afterRun (before ++ (Read k x ∷ [])) m) between
+    → Undisturbed (Besides x) GoesOn k (afterRun (before ++ (Read k x ∷ [])) m) between
     → tells (Read k x) (afterRun (before ++ (Read k x ∷ between)) m) ≡ Answered v
     → u ≡ v
 
@@ -92,8 +99,26 @@ Unbroken m qs =
     (k x : ℕ) (before between rest : List Call) (u : Option Value)
     → qs ≡ before ++ (Read k x ∷ (between ++ (Read k x ∷ rest)))
     → tells (Read k x) (afterRun before m) ≡ Answered u
-    → Undisturbed Waits k x (afterRun (before ++ (Read k x ∷ [])) m) between
+    → Undisturbed (Besides x) Waits k (afterRun (before ++ (Read k x ∷ [])) m) between
     → tells (Read k x) (afterRun (before ++ (Read k x ∷ between)) m) ≡ Answered u
+
+-- ---- an enquiry
+
+-- no cell, and no answer
+abbrev pub Nowhere : ℕ → Type 0
+Nowhere y = ⊥
+
+abbrev pub Never : Progress → Type 0
+Never a = ⊥
+
+-- a client that has begun, and neither wrote nor advanced since, is answered Done with the snapshot that its Begin was answered with
+abbrev pub Enquiry : Memory → List Call → Type 0
+Enquiry m qs =
+    (k : ℕ) (before between rest : List Call) (b : Begun)
+    → qs ≡ before ++ (Begin k ∷ (between ++ (Advance k ∷ rest)))
+    → tells (Begin k) (afterRun before m) ≡ Answered b
+    → Undisturbed Nowhere Never k (afterRun (before ++ (Begin k ∷ [])) m) between
+    → tells (Advance k) (afterRun (before ++ (Begin k ∷ between)) m) ≡ Answered (Done (b .snapshot))
 
 -- ---- the demand
 
@@ -111,6 +136,8 @@ pub record Demand3 (d c : List ℕ) (w l : ℕ) (qs : List Call) : Type 0 where
   -- document 02, 1: "A screen box that also saves its layout goes blank while its commit waits. Read now answers at stages 1 to 11": it reads on,
   -- whatever it waits for and whatever the others do
   pub unbroken : Unbroken (memoryOf (setUp d c w l)) qs
+  -- document 02, 2: "Advance at stage 0 with nothing written now answers Done with the snapshot number": at once, whatever the others do
+  pub enquiry : Enquiry (memoryOf (setUp d c w l)) qs
   -- "Refusal by operation": a refused call gets one of the numbers listed for it; 11 is in no list: it "never occurs any more" (document 02, 2)
   pub listed : AllListed (memoryOf (setUp d c w l)) qs
   -- "after a refused one every call gets 2"
