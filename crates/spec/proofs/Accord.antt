@@ -87,17 +87,18 @@ unfolding check removed closed cleared bit member remove conflict clash wrote an
 next-commit = refl
 
 -- document 02, 2: "Advance at stage 0 with nothing written now answers Done with the snapshot number and closes the transaction. Nothing enters a
--- queue, and no number is taken", even with R and C used up: client 0's transaction 5, with S 1, wrote nothing; the last commit is 2, and client
--- 1's transaction 4 is under way
-abbrev enquiry : Clients → Image
-enquiry c =
-    imageOf 4 16 (countersOf 5 top top 2) c (dataRow 1 7 value ∷ dataRow 2 7 value ∷ dataRow 4 7 value ∷ []) (commitRow 1 1 ∷ commitRow 2 2 ∷ [])
+-- queue, and no number is taken", even with R and C used up: the last commit is 2, client 1's transaction 4 is under way, and client 0's
+-- transaction 5, with S 1, wrote nothing
+abbrev storeWith : Clients → Image
+storeWith c = imageOf 4 16 (countersOf 5 top top 2) c (dataRow 1 7 value ∷ dataRow 2 7 value ∷ dataRow 4 7 value ∷ []) (commitRow 1 1 ∷ commitRow 2 2 ∷ [])
 
 abbrev underway : Clients
 underway = clientsOf (set zeros 1 8) (set zeros 1 4) (set zeros 1 2) (set zeros 1 3) (set zeros 1 3) zeros zeros
 
-pub done-unchanged : advance 0 (enquiry (clientsOf (underway .stage) (set (underway .number) 0 5) (set (underway .snapshot) 0 1) (underway .request) (underway .commit) zeros zeros))
-    ≡ gives (enquiry underway) (Done 1)
+abbrev andEnquiry : Clients
+andEnquiry = clientsOf (underway .stage) (set (underway .number) 0 5) (set (underway .snapshot) 0 1) (underway .request) (underway .commit) zeros zeros
+
+pub done-unchanged : advance 0 (storeWith andEnquiry) ≡ gives (storeWith underway) (Done 1)
 unfolding advance enter finished goOn closed cleared bit member remove any hasTag tagOf number dataRow bytesOf
 done-unchanged = refl
 

@@ -281,7 +281,7 @@ cases =
     ∷ record {
       name = "an enquiry in a new store";
       exchanges =
-          ("(set-up 2 1 0)" ⇒ "(set-up (free 2))"
+          ("(set-up 1 1 0)" ⇒ "(set-up (free 1))"
           ∷ "(begin 0)" ⇒ "(begin 0 (number 1) (snapshot 0))"
           ∷ "(read 0 7)" ⇒ "(read 0 7 (unwritten))"
           ∷ "(advance 0)" ⇒ "(advance 0 (done 0))"
@@ -290,7 +290,9 @@ cases =
           ∷ "(read 0 7)" ⇒ "(read 0 7 (refused 6))"
           ∷ "(begin 0)" ⇒ "(begin 0 (number 2) (snapshot 0))"
           -- a refused write has written nothing
-          ∷ "(write 0 1024 000102030405060708090a0b0c0d0e0f)" ⇒ "(write 0 1024 (refused 4))"
+          ∷ "(begin 1)" ⇒ "(begin 1 (number 3) (snapshot 0))"
+          ∷ "(write 1 7 000102030405060708090a0b0c0d0e0f)" ⇒ "(write 1 7 (free 0))"
+          ∷ "(write 0 7 000102030405060708090a0b0c0d0e0f)" ⇒ "(write 0 7 (refused 10))"
           ∷ "(advance 0)" ⇒ "(advance 0 (done 0))"
           ∷ []);
     }
