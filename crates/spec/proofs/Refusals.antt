@@ -22,8 +22,8 @@ use Rattle.spec.specs.declared.Progress.{Progress}
 use Rattle.spec.specs.Image.{Image, numberOf, snapshotOf, stageOf, isOpen}
 use Rattle.spec.specs.Calls.{Outcome, gives, refuse, cells, top, free, begun, begin, read, replaced, added, stored, write, abandon, trimmedTo, trim}
 use Rattle.spec.specs.Steps.{goOn, finished, enter, takeRequest, listRequests, looked, lookRequests, checked, check, takeCommit, listCommits, lookCommits, addCommit, leaveCommits, leaveRequests, steps, noStep, advance}
-use Rattle.spec.specs.Answers.{Answer, Refused, unfit}
-use Rattle.spec.specs.Bytes.{seen, leaves, laidOut, fits, after}
+use Rattle.spec.specs.Answers.{Answer, Refused}
+use Rattle.spec.specs.Bytes.{seen, After, laidOut, fits, after}
 use Rattle.spec.specs.Run.{Call, Begin, Read, Write, Advance, Abandon, Trim, Free, Gives, refusals, Listed, perform, Memory, memoryOf, takes}
 use Rattle.spec.specs.Right.{AllListed}
 use Rattle.spec.proofs.Lists.{in-nil, in-case}
@@ -155,7 +155,31 @@ noStep-listed : Step noStep
 noStep-listed k i = refuses 2 i refl
 
 steps-listed : Each Step steps
-steps-listed = (enter-listed, (takeRequest-listed, (goOn-listed 3, (listRequests-listed, (lookRequests-listed, (check-listed, (goOn-listed 7, (takeCommit-listed, (goOn-listed 9, (listCommits-listed, (lookCommits-listed, (addCommit-listed, (leaveCommits-listed, (leaveRequests-listed, tt))))))))))))))
+steps-listed = (
+  enter-listed,
+  (
+    takeRequest-listed,
+    (
+      goOn-listed 3,
+      (
+        listRequests-listed,
+        (
+          lookRequests-listed,
+          (
+            check-listed,
+            (
+              goOn-listed 7,
+              (
+                takeCommit-listed,
+                (goOn-listed 9, (listCommits-listed, (lookCommits-listed, (addCommit-listed, (leaveCommits-listed, (leaveRequests-listed, tt)))))),
+              ),
+            ),
+          ),
+        ),
+      ),
+    ),
+  ),
+)
 
 advance-listed : Step advance
 unfolding advance
@@ -185,13 +209,15 @@ unfit-listed (Abandon k) = here refl
 unfit-listed Trim = here refl
 unfit-listed Free = here refl
 
+listed-if : {A : Type 0} (l : List ℕ) (b : Bool) (x y : After A) → Listed l (x .answer) → Listed l (y .answer) → Listed l ((if b then x else y) .answer)
+listed-if l true x y p q = p
+listed-if l false x y p q = q
+
 pub refused-by-number : (q : Call) (m : Memory) → Listed (refusals q) (takes q m .answer)
 unfolding after laidOut
-refused-by-number q m = go (fits (m .store) (length (m .dataBytes)) (length (m .commitBytes)))
-  where
-    go : (b : Bool) → Listed (refusals q) ((if b then laidOut (m .store) (m .dataBytes) (m .commitBytes) (perform q (seen (m .store) (m .dataBytes) (m .commitBytes))) else leaves (m .store) (m .dataBytes) (m .commitBytes) (Refused unfit)) .answer)
-    go true = perform-listed q (seen (m .store) (m .dataBytes) (m .commitBytes)) .listed
-    go false = unfit-listed q
+refused-by-number q m =
+    listed-if (refusals q) (fits (m .store) (length (m .dataBytes)) (length (m .commitBytes))) _ _
+    (perform-listed q (seen (m .store) (m .dataBytes) (m .commitBytes)) .listed) (unfit-listed q)
 
 pub all-listed : (qs : List Call) (m : Memory) → AllListed m qs
 all-listed [] m = tt

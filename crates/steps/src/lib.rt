@@ -3,12 +3,15 @@ ghost use mathlib.Core.Path.{_≡_};
 ghost use mathlib.Core.Bool.{true};
 ghost use mathlib.Core.List.{List};
 ghost use Prim.Native.Nat.{ℕ, _*_, _≤_, _<_};
-ghost use lib.ListN.{length, getD};
+ghost use lib.ListN.{length};
 ghost use Rattle.sets.specs.Set.{clients};
-ghost use Rattle.spec.specs.Answers.{Answer, advanceOf};
+ghost use Rattle.spec.specs.Answers.{advanceOf};
+ghost use Rattle.spec.specs.Steps.{requests as requestQueue, commits as commitQueue, goOn, finished, advance};
+ghost use Rattle.spec.specs.Steps.{enter, takeRequest, listRequests, looked, lookRequests, check};
+ghost use Rattle.spec.specs.Steps.{takeCommit, listCommits, lookCommits, addCommit, leaveCommits, leaveRequests};
+ghost use Rattle.spec.specs.Bytes.{leaves, fits, after};
 ghost use Rattle.steps.specs.Removed.{Removed};
-ghost use Rattle.spec.specs.Steps.{requests as requestQueue, commits as commitQueue, goOn, finished, enter, takeRequest, listRequests, looked, lookRequests, check, takeCommit, listCommits, lookCommits, addCommit, leaveCommits, leaveRequests, steps, noStep, advance};
-ghost use Rattle.spec.specs.Bytes.{seen, leaves, laidOut, fits, after};
+ghost use Rattle.steps.specs.Takes.{Takes, TakesUnseen, TakesDue};
 use search::Number;
 use sets::LIMIT;
 use sets::Set;
@@ -53,7 +56,7 @@ fn refuse(store: Store, refusal: Refusal) -> AdvanceTurn
 // The client goes on to a stage.
 fn go_on(store: Store, client: u32, stage: u32) -> AdvanceTurn
     requires { ⌜ client < clients ⌝ }
-    ensures { λ r. ⌜ ((d c : List ℕ) → leaves (r .store) d c (advanceOf (r .answer)) ≡ laidOut store d c (goOn stage client (seen store d c))) ⌝ }
+    ensures { λ r. ⌜ TakesUnseen (goOn stage client) store r ⌝ }
 {
     let k = client as usize;
     let mut next = store;
@@ -69,7 +72,7 @@ fn go_on(store: Store, client: u32, stage: u32) -> AdvanceTurn
 // The client is closed, with Done and a number.
 fn finish(store: Store, client: u32, number: u32) -> AdvanceTurn
     requires { ⌜ client < clients ⌝ }
-    ensures { λ r. ⌜ ((d c : List ℕ) → leaves (r .store) d c (advanceOf (r .answer)) ≡ laidOut store d c (finished number client (seen store d c))) ⌝ }
+    ensures { λ r. ⌜ TakesUnseen (finished number client) store r ⌝ }
 {
     let closed = record::close(store, client);
     AdvanceTurn {
@@ -82,7 +85,7 @@ fn finish(store: Store, client: u32, number: u32) -> AdvanceTurn
 fn enter(store: Store, rows: &[u8], client: u32) -> AdvanceTurn
     requires { ⌜ client < clients ⌝ }
     requires { ⌜ 24 * store .used ≤ length (now rows) ⌝ }
-    ensures { λ r. ⌜ ((c : List ℕ) → leaves (r .store) (now (rows .entry)) c (advanceOf (r .answer)) ≡ laidOut store (now (rows .entry)) c (enter client (seen store (now (rows .entry)) c))) ⌝ }
+    ensures { λ r. ⌜ ((c : List ℕ) → Takes (enter client) store (now (rows .entry)) c r (now (rows .entry)) c) ⌝ }
 {
     let k = client as usize;
     let numbers = store.number;
@@ -99,7 +102,7 @@ fn enter(store: Store, rows: &[u8], client: u32) -> AdvanceTurn
 // 1: take a request number.
 fn take_request(store: Store, client: u32) -> AdvanceTurn
     requires { ⌜ client < clients ⌝ }
-    ensures { λ r. ⌜ ((d c : List ℕ) → leaves (r .store) d c (advanceOf (r .answer)) ≡ laidOut store d c (takeRequest client (seen store d c))) ⌝ }
+    ensures { λ r. ⌜ TakesUnseen (takeRequest client) store r ⌝ }
 {
     if store.requested == 4294967295 {
         return refuse(store, Refusal::Unfit);
@@ -118,7 +121,7 @@ fn take_request(store: Store, client: u32) -> AdvanceTurn
 fn list_requests(store: Store, rows: &[u8], client: u32) -> AdvanceTurn
     requires { ⌜ client < clients ⌝ }
     requires { ⌜ 24 * store .used ≤ length (now rows) ⌝ }
-    ensures { λ r. ⌜ ((c : List ℕ) → leaves (r .store) (now (rows .entry)) c (advanceOf (r .answer)) ≡ laidOut store (now (rows .entry)) c (listRequests client (seen store (now (rows .entry)) c))) ⌝ }
+    ensures { λ r. ⌜ ((c : List ℕ) → Takes (listRequests client) store (now (rows .entry)) c r (now (rows .entry)) c) ⌝ }
 {
     let queue = request_queue();
     let k = client as usize;
@@ -137,7 +140,7 @@ fn list_requests(store: Store, rows: &[u8], client: u32) -> AdvanceTurn
 // What a look that leaves a list comes to: the next stage if none is left on it, else how many are.
 fn looked(store: Store, client: u32, list: Set, stage: u32) -> AdvanceTurn
     requires { ⌜ client < clients ⌝ }
-    ensures { λ r. ⌜ ((d c : List ℕ) → leaves (r .store) d c (advanceOf (r .answer)) ≡ laidOut store d c (looked stage client list (seen store d c))) ⌝ }
+    ensures { λ r. ⌜ TakesUnseen (looked stage client list) store r ⌝ }
 {
     if list == 0 {
         return go_on(store, client, stage);
@@ -151,7 +154,7 @@ fn looked(store: Store, client: u32, list: Set, stage: u32) -> AdvanceTurn
 // 4: look at the request queue.
 fn look_requests(store: Store, client: u32) -> AdvanceTurn
     requires { ⌜ client < clients ⌝ }
-    ensures { λ r. ⌜ ((d c : List ℕ) → leaves (r .store) d c (advanceOf (r .answer)) ≡ laidOut store d c (lookRequests client (seen store d c))) ⌝ }
+    ensures { λ r. ⌜ TakesUnseen (lookRequests client) store r ⌝ }
 {
     let queue = request_queue();
     let k = client as usize;
@@ -188,7 +191,7 @@ pub fn remove(store: Store, rows: &mut [u8], client: u32) -> Store
 fn check(store: Store, rows: &mut [u8], commits: &[u8], client: u32) -> AdvanceTurn
     requires { ⌜ client < clients ⌝ }
     requires { ⌜ fits store (length (now rows)) (length (now commits)) ≡ true ⌝ }
-    ensures { λ r. ⌜ leaves (r .store) (now (rows .exit)) (now (commits .entry)) (advanceOf (r .answer)) ≡ laidOut store (now (rows .entry)) (now (commits .entry)) (check client (seen store (now (rows .entry)) (now (commits .entry)))) ⌝ }
+    ensures { λ r. ⌜ Takes (check client) store (now (rows .entry)) (now (commits .entry)) r (now (rows .exit)) (now (commits .entry)) ⌝ }
 {
     let k = client as usize;
     let numbers = store.number;
@@ -210,7 +213,7 @@ fn check(store: Store, rows: &mut [u8], commits: &[u8], client: u32) -> AdvanceT
 // 7: take a commit number.
 fn take_commit(store: Store, client: u32) -> AdvanceTurn
     requires { ⌜ client < clients ⌝ }
-    ensures { λ r. ⌜ ((d c : List ℕ) → leaves (r .store) d c (advanceOf (r .answer)) ≡ laidOut store d c (takeCommit client (seen store d c))) ⌝ }
+    ensures { λ r. ⌜ TakesUnseen (takeCommit client) store r ⌝ }
 {
     if store.taken == 4294967295 {
         return refuse(store, Refusal::Unfit);
@@ -228,7 +231,7 @@ fn take_commit(store: Store, client: u32) -> AdvanceTurn
 // 9: list all other commit queue rows, once.
 fn list_commits(store: Store, client: u32) -> AdvanceTurn
     requires { ⌜ client < clients ⌝ }
-    ensures { λ r. ⌜ ((d c : List ℕ) → leaves (r .store) d c (advanceOf (r .answer)) ≡ laidOut store d c (listCommits client (seen store d c))) ⌝ }
+    ensures { λ r. ⌜ TakesUnseen (listCommits client) store r ⌝ }
 {
     let queue = commit_queue();
     let k = client as usize;
@@ -243,7 +246,7 @@ fn list_commits(store: Store, client: u32) -> AdvanceTurn
 // 10: look at the commit queue.
 fn look_commits(store: Store, client: u32) -> AdvanceTurn
     requires { ⌜ client < clients ⌝ }
-    ensures { λ r. ⌜ ((d c : List ℕ) → leaves (r .store) d c (advanceOf (r .answer)) ≡ laidOut store d c (lookCommits client (seen store d c))) ⌝ }
+    ensures { λ r. ⌜ TakesUnseen (lookCommits client) store r ⌝ }
 {
     let queue = commit_queue();
     let k = client as usize;
@@ -264,7 +267,7 @@ fn add_commit(store: Store, commits: &mut [u8], client: u32) -> AdvanceTurn
     requires { ⌜ client < clients ⌝ }
     requires { ⌜ 8 * store .rows ≤ length (now commits) ⌝ }
     requires { ⌜ store .rows ≤ 1024 ⌝ }
-    ensures { λ r. ⌜ ((d : List ℕ) → leaves (r .store) d (now (commits .exit)) (advanceOf (r .answer)) ≡ laidOut store d (now (commits .entry)) (addCommit client (seen store d (now (commits .entry))))) ⌝ }
+    ensures { λ r. ⌜ ((d : List ℕ) → Takes (addCommit client) store d (now (commits .entry)) r d (now (commits .exit))) ⌝ }
 {
     if store.rows <= store.entries {
         return refuse(store, Refusal::Unfit);
@@ -291,7 +294,7 @@ fn add_commit(store: Store, commits: &mut [u8], client: u32) -> AdvanceTurn
 // 12: leave the commit queue.
 fn leave_commits(store: Store, client: u32) -> AdvanceTurn
     requires { ⌜ client < clients ⌝ }
-    ensures { λ r. ⌜ ((d c : List ℕ) → leaves (r .store) d c (advanceOf (r .answer)) ≡ laidOut store d c (leaveCommits client (seen store d c))) ⌝ }
+    ensures { λ r. ⌜ TakesUnseen (leaveCommits client) store r ⌝ }
 {
     let ahead = store.ahead;
     let lists = record::clear_all(ahead, client);
@@ -303,7 +306,7 @@ fn leave_commits(store: Store, client: u32) -> AdvanceTurn
 // 13: leave the request queue; closed.
 fn leave_requests(store: Store, client: u32) -> AdvanceTurn
     requires { ⌜ client < clients ⌝ }
-    ensures { λ r. ⌜ ((d c : List ℕ) → leaves (r .store) d c (advanceOf (r .answer)) ≡ laidOut store d c (leaveRequests client (seen store d c))) ⌝ }
+    ensures { λ r. ⌜ TakesUnseen (leaveRequests client) store r ⌝ }
 {
     let k = client as usize;
     let commits = store.commit;
@@ -315,7 +318,7 @@ fn leave_requests(store: Store, client: u32) -> AdvanceTurn
 fn step(store: Store, rows: &mut [u8], commits: &mut [u8], client: u32) -> AdvanceTurn
     requires { ⌜ client < clients ⌝ }
     requires { ⌜ fits store (length (now rows)) (length (now commits)) ≡ true ⌝ }
-    ensures { λ r. ⌜ leaves (r .store) (now (rows .exit)) (now (commits .exit)) (advanceOf (r .answer)) ≡ laidOut store (now (rows .entry)) (now (commits .entry)) (getD steps (getD (store .stage) client 0) noStep client (seen store (now (rows .entry)) (now (commits .entry)))) ⌝ }
+    ensures { λ r. ⌜ TakesDue client store (now (rows .entry)) (now (commits .entry)) r (now (rows .exit)) (now (commits .exit)) ⌝ }
 {
     let k = client as usize;
     let stages = store.stage;
