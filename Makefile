@@ -5,13 +5,15 @@
 #   make soak LINES=.. SEEDS=..   longer generated runs against the model
 #   make bench                    instructions and times against hand-written Rust (needs valgrind)
 #   make peers                    the same work on SQLite and LMDB, where their packages are installed
-#   make outputs                  what the model prints for the examples and for the stored run, written anew beside them
+#   make outputs                  what the model prints for the examples and for the stored runs, written anew beside them
 # tests/tickets lists the tickets of document 02 that have landed: tests, benchmark and stored outputs go by it.
 EXAMPLE ?= examples/first.txt
 LINES ?= 400000
 SEEDS ?= 8
 CARGO = cargo --quiet
 TICKETS = $(shell cat tests/tickets)
+# the landed tickets but 9: the tournament desk's stored runs are those of before it
+BEFORE_9 = $(shell tr , '\n' <tests/tickets | grep -vx 9 | paste -sd, -)
 
 .PHONY: run test build soak bench peers outputs
 
@@ -38,3 +40,4 @@ outputs:
 	$(CARGO) build --release --offline --manifest-path tests/model/Cargo.toml
 	for input in examples/*.txt; do tests/model/target/release/model-step --tickets $(TICKETS) <$$input >$${input%.txt}.out; done
 	tests/model/target/release/model-step --tickets $(TICKETS) <crates/step/stdin >crates/step/stdout
+	for input in tests/tournament/*.txt; do tests/model/target/release/model-step --tickets $(BEFORE_9) <$$input >$${input%.txt}.out; done

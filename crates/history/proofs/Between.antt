@@ -16,7 +16,7 @@ use Rattle.spec.specs.declared.Progress.the-variants.{Stage, Waiting, Conflict,
 use Rattle.spec.specs.Answers.{Answer, Answered, Refused}
 use Rattle.spec.specs.Run.{Call, Begin, Read, Write, Advance, Abandon, Trim, Free, Memory, memoryOf, takes}
 use Rattle.spec.specs.Table.{Value, Commit, Open, Table, put, withWrites, atStage, reaches, Told, tell}
-use Rattle.spec.specs.Right.{Right, tells, RightRun}
+use Rattle.spec.specs.Right.{Bounds, Right, tells, RightRun}
 use Rattle.spec.proofs.Lists.{none-some, same-some}
 use Rattle.history.specs.Demand.{afterRun, Spares, Undisturbed}
 use Rattle.history.proofs.Book.{either}
@@ -74,7 +74,7 @@ module _ (W : ℕ → Type 0) (P : Progress → Type 0) (k : ℕ) (Q : Open → 
       (λ _. either (HoldsIn k Q) (eqb g 12) (λ z. let a = at (o .commit) 12 (eqb-true g 12 z) in (a .0, a .1, l .grown (a .0) (t .book) _ (a .2)))
       (λ _. h (o .commit)))
 
-  call-spares : (n w : ℕ) (t : Table) (q : Call) (a : Answer (Told q)) (next : Answer ℕ) → Right n w t q a next
+  call-spares : (n : Bounds) (w : ℕ) (t : Table) (q : Call) (a : Answer (Told q)) (next : Answer ℕ) → Right n w t q a next
       → ((b : Told q) → a ≡ Answered b → Spares W P k q b) → HoldsIn k Q t → HoldsIn k Q (tell q a t)
   unfolding tell
   call-spares n w t q (Refused m) next r c s = s
@@ -94,18 +94,18 @@ module _ (W : ℕ → Type 0) (P : Progress → Type 0) (k : ℕ) (Q : Open → 
   -- ---- lists of calls
 
   -- the answer a to the call q is right by a table in which Q holds
-  abbrev pub StillRight : ℕ → (q : Call) → Answer (Told q) → Type 0
+  abbrev pub StillRight : Bounds → (q : Call) → Answer (Told q) → Type 0
   StillRight n q a = (t : Table) × HoldsIn k Q t × ((w : ℕ) × (next : Answer ℕ) × Right n w t q a next)
 
-  up-to : (q : Call) (qs rest : List Call) (n w : ℕ) (t : Table) (m : Memory) → RightRun n w t m (qs ++ (q ∷ rest)) → Undisturbed W P k m qs
+  up-to : (q : Call) (qs rest : List Call) (n : Bounds) (w : ℕ) (t : Table) (m : Memory) → RightRun n w t m (qs ++ (q ∷ rest)) → Undisturbed W P k m qs
       → HoldsIn k Q t → StillRight n q (tells q (afterRun qs m))
   up-to q [] rest n w t m r c s = (t, s, (w, _, r .0))
   up-to q (p ∷ qs) rest n w t m r c s = up-to q qs rest n _ _ _ (r .1) (c .1) (call-spares n w t p (tells p m) _ (r .0) (c .0) s)
 
   -- the call p is answered with a, and makes Q hold; q is a later call
   module _ (p q : Call) (between rest : List Call) (a : Told p)
-      (first : (n w : ℕ) (t : Table) (next : Answer ℕ) → Right n w t p (Answered a) next → HoldsIn k Q (tell p (Answered a) t)) where
-    pub two-calls : (before : List Call) (n w : ℕ) (t : Table) (m : Memory) → RightRun n w t m (before ++ (p ∷ (between ++ (q ∷ rest))))
+      (first : (n : Bounds) (w : ℕ) (t : Table) (next : Answer ℕ) → Right n w t p (Answered a) next → HoldsIn k Q (tell p (Answered a) t)) where
+    pub two-calls : (before : List Call) (n : Bounds) (w : ℕ) (t : Table) (m : Memory) → RightRun n w t m (before ++ (p ∷ (between ++ (q ∷ rest))))
         → tells p (afterRun before m) ≡ Answered a → Undisturbed W P k (afterRun (before ++ (p ∷ [])) m) between
         → StillRight n q (tells q (afterRun (before ++ (p ∷ between)) m))
     two-calls [] n w t m r e c =

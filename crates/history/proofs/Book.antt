@@ -14,7 +14,7 @@ use Rattle.spec.specs.declared.Progress.the-variants.{Stage, Waiting, Conflict,
 use Rattle.spec.specs.Answers.{Answer, Answered, Refused}
 use Rattle.spec.specs.Run.{Call, Begin, Read, Write, Advance, Abandon, Trim, Free, Memory}
 use Rattle.spec.specs.Table.{Value, Values, has, Commit, Open, Table, blank, orElse, commits, reaches, Told, tell}
-use Rattle.spec.specs.Right.{lastNumber, RightProgress, Right, tells, RightRun}
+use Rattle.spec.specs.Right.{Bounds, lastNumber, RightProgress, Right, tells, RightRun}
 use Rattle.spec.proofs.Lists.{in-nil, in-left, in-right, append-case, in-one}
 use Rattle.history.specs.Demand.{tableAfter, Rising, Valued}
 
@@ -35,7 +35,7 @@ module _ (P : Values → List Commit → Type 0)
       either (λ s. P (s .values) (s .book)) (eqb g 8) (λ _. h)
       (λ _. either (λ s. P (s .values) (s .book)) (eqb g 12) (λ e. made k t o (r .1 .1 .1 (eqb-true g 12 e) .1) h) (λ _. h))
 
-  call-keeps : (n w : ℕ) (t : Table) (q : Call) (a : Answer (Told q)) (next : Answer ℕ) → Right n w t q a next → P (t .values) (t .book)
+  call-keeps : (n : Bounds) (w : ℕ) (t : Table) (q : Call) (a : Answer (Told q)) (next : Answer ℕ) → Right n w t q a next → P (t .values) (t .book)
       → P (tell q a t .values) (tell q a t .book)
   unfolding tell
   call-keeps n w t q (Refused m) next r h = h
@@ -50,7 +50,7 @@ module _ (P : Values → List Commit → Type 0)
   call-keeps n w t Trim (Answered a) next r h = h
   call-keeps n w t Free (Answered a) next r h = h
 
-  along : (qs : List Call) (n w : ℕ) (t : Table) (m : Memory) → RightRun n w t m qs → P (t .values) (t .book)
+  along : (qs : List Call) (n : Bounds) (w : ℕ) (t : Table) (m : Memory) → RightRun n w t m qs → P (t .values) (t .book)
       → P (tableAfter qs m t .values) (tableAfter qs m t .book)
   along [] n w t m r h = h
   along (q ∷ qs) n w t m r h = along qs n _ _ _ (r .1) (call-keeps n w t q (tells q m) _ (r .0) h)
@@ -63,7 +63,7 @@ rising-append [] e h r = tt
 rising-append (d ∷ []) e h r = (h, tt)
 rising-append (d ∷ f ∷ l) e h r = (r .0, rising-append (f ∷ l) e h (r .1))
 
-pub rising-run : (qs : List Call) (n w : ℕ) (m : Memory) → RightRun n w blank m qs → Rising (tableAfter qs m blank .book)
+pub rising-run : (qs : List Call) (n : Bounds) (w : ℕ) (m : Memory) → RightRun n w blank m qs → Rising (tableAfter qs m blank .book)
 unfolding blank
 rising-run qs n w m r = along (λ v l. Rising l) (λ k t o h. rising-append (t .book) _ h) qs n w blank m r tt
 
@@ -95,7 +95,7 @@ valued-append x k t o h = record {
       (λ i. over-left (o .writes x) (t .values x) (ap (λ (e : Commit). e .wrote x) (sym (in-one i)) ∙ z .2));
 }
 
-pub valued-run : (qs : List Call) (n w : ℕ) (m : Memory) → RightRun n w blank m qs → (x : ℕ)
+pub valued-run : (qs : List Call) (n : Bounds) (w : ℕ) (m : Memory) → RightRun n w blank m qs → (x : ℕ)
     → Valued x (tableAfter qs m blank .values) (tableAfter qs m blank .book)
 unfolding blank
 valued-run qs n w m r x =

@@ -18,7 +18,7 @@ use Rattle.spec.specs.declared.Progress.the-variants.{Stage, Waiting, Conflict,
 use Rattle.spec.specs.Answers.{Answer, Answered, Refused}
 use Rattle.spec.specs.Run.{Call, Begin, Advance, Memory}
 use Rattle.spec.specs.Table.{has, Commit, Open, Table, opens, tell}
-use Rattle.spec.specs.Right.{lastNumber, Wrote, RightBegin, RightProgress, RightAdvance, RightRun}
+use Rattle.spec.specs.Right.{Bounds, lastNumber, Wrote, RightBegin, RightProgress, RightAdvance, RightRun}
 use Rattle.spec.proofs.Lists.{none-some, same-some}
 use Rattle.history.specs.Demand.{Nowhere, Never, Enquiry}
 use Rattle.history.proofs.Between.{put-same, HoldsIn, Lasts, two-calls}
@@ -68,7 +68,7 @@ finishes s k t h (Answered a) r = ap (λ (y : Progress). Answered y) (only a (su
     only (Conflict n) p = absurd (omega (arith, p .0, h .2 .stage))
     only (Done n) p = ⊎-elim (λ d. absurd (omega (arith, d .from, h .2 .stage))) (λ d. ap (λ (y : ℕ). Done y) (d .number ∙ h .2 .number)) p
 
-pub enquiry-run : (qs : List Call) (n w : ℕ) (t : Table) (m : Memory) → RightRun n w t m qs → Enquiry m qs
+pub enquiry-run : (qs : List Call) (n : Bounds) (w : ℕ) (t : Table) (m : Memory) → RightRun n w t m qs → Enquiry m qs
 enquiry-run qs n w t m r k before between rest b split e c =
     let z = two-calls Nowhere Never k (Looks (b .snapshot)) (looks-lasts (b .snapshot)) (Begin k) (Advance k) between rest b
     (λ n w t next s. begin-holds k w b t s) before n w t m (subst (RightRun n w t m) split r) e c in

@@ -13,7 +13,7 @@ use Rattle.spec.specs.Answers.{Answer, Answered, Refused}
 use Rattle.spec.specs.Calls.{cells}
 use Rattle.spec.specs.Run.{Call, Read, Memory}
 use Rattle.spec.specs.Table.{Value, Commit, Open, Table, orElse, tell}
-use Rattle.spec.specs.Right.{RightRead, RightRun}
+use Rattle.spec.specs.Right.{Bounds, RightRead, RightRun}
 use Rattle.spec.proofs.Lists.{same-some}
 use Rattle.history.specs.Demand.{GoesOn, Waits, Besides, Steady, Unbroken}
 use Rattle.history.proofs.Between.{put-other, HoldsIn, Lasts, two-calls}
@@ -42,7 +42,7 @@ same-lasts x u = record {
   done = λ n p. p;
 }
 
-pub steady-run : (qs : List Call) (n w : ℕ) (t : Table) (m : Memory) → RightRun n w t m qs → Steady m qs
+pub steady-run : (qs : List Call) (n : Bounds) (w : ℕ) (t : Table) (m : Memory) → RightRun n w t m qs → Steady m qs
 steady-run qs n w t m r k x before between rest u v split e c f =
     let z = two-calls (Besides x) GoesOn k (Same x u) (same-lasts x u) (Read k x) (Read k x) between rest u
     (λ n w t next s. read-holds k x u (Same x u) t (λ o p _ _. p) s) before n w t m (subst (RightRun n w t m) split r) e c in
@@ -73,7 +73,7 @@ answered x k u t s (Answered v) r =
 answered x k u t s (Refused n) r =
     ⊎-elim (λ z. absurd (omega (arith, z .0, s .2 .cell))) (λ z. absurd (omega (arith, z .1, s .2 .stage))) (r (s .0) (s .1))
 
-pub unbroken-run : (qs : List Call) (n w : ℕ) (t : Table) (m : Memory) → RightRun n w t m qs → Unbroken m qs
+pub unbroken-run : (qs : List Call) (n : Bounds) (w : ℕ) (t : Table) (m : Memory) → RightRun n w t m qs → Unbroken m qs
 unbroken-run qs n w t m r k x before between rest u split e c =
     let z = two-calls (Besides x) Waits k (Early x u) (early-lasts x u) (Read k x) (Read k x) between rest u
     (λ n w t next s. read-holds k x u (Early x u) t (λ o p g h. record { same = p; stage = g; cell = h }) s) before n w t m (subst (RightRun n w t m) split r) e c in

@@ -1,6 +1,6 @@
 -- Demand 3 holds for every set-up, refused or not, and every list of calls: crate spec has that every answer is right, with which numbers calls are
--- refused, and whether the store is fit; what is said of the book, the values, repeated reads and enquiries follows from the answers being
--- right.
+-- refused, and whether the store is fit; what is said of the book, the values, repeated reads, enquiries and the cell limit follows from the
+-- answers being right.
 -- w, the first W, is a number of 32 bits by its type.
 -- Assumes nothing.
 use Prim.Native.Nat.{ℕ, _≤_}
@@ -8,17 +8,19 @@ use mathlib.Core.List.{List}
 use Rattle.spec.specs.Bytes.{setUp}
 use Rattle.spec.specs.Run.{Call, memoryOf}
 use Rattle.spec.specs.Table.{blank}
+use Rattle.spec.specs.Right.{Bounds, boundsOf}
 use Rattle.spec.proofs.Refusals.{all-listed}
 use Rattle.spec.proofs.Demand.{demand3, all-unfit, all-fit}
 use Rattle.history.specs.Demand.{Demand3}
 use Rattle.history.proofs.Book.{rising-run, valued-run}
 use Rattle.history.proofs.Repeats.{steady-run, unbroken-run}
 use Rattle.history.proofs.Enquiries.{enquiry-run}
+use Rattle.history.proofs.Limits.{capped-run}
 
 pub theorem : (d c : List ℕ) (w l : ℕ) → w ≤ 4294967295 → (qs : List Call) → Demand3 d c w l qs
 theorem d c w l h qs =
     let r = demand3 d c w l h qs in
-    let n : ℕ = setUp d c w l .store .rows in
+    let n : Bounds = boundsOf d l in
     record {
       right = r;
       rising = rising-run qs n 0 (memoryOf (setUp d c w l)) r;
@@ -26,6 +28,7 @@ theorem d c w l h qs =
       steady = steady-run qs n 0 blank (memoryOf (setUp d c w l)) r;
       unbroken = unbroken-run qs n 0 blank (memoryOf (setUp d c w l)) r;
       enquiry = enquiry-run qs n 0 blank (memoryOf (setUp d c w l)) r;
+      capped = capped-run qs n 0 (memoryOf (setUp d c w l)) r;
       listed = all-listed qs (memoryOf (setUp d c w l));
       unfit = λ e. all-unfit d c w l e qs;
       fit = λ e. all-fit d c w l e qs;

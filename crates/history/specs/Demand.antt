@@ -1,21 +1,22 @@
 -- Demand 3 of document 01 ("The plain table"): "one claim about the whole list of calls", from what one set-up handed back. d and c are the
 -- bytes of the buffers given to set-up, w the first W, l the limit, qs the calls; client k, cell x.
 -- Assumes nothing.
-use Prim.Native.Nat.{ℕ, _<_}
+use Prim.Native.Nat.{ℕ, _≤_, _<_}
 use mathlib.Core.Path.{_≡_}
 use mathlib.Core.Logic.{_≢_}
 use mathlib.Core.Bool.{true, false}
 use mathlib.Core.List.{List, [], _∷_, _++_, List·Memᴰ}
-use mathlib.Core.Option.{Option}
+use mathlib.Core.Option.{Option, some}
 use lib.ListN.{length}
 use Rattle.spec.specs.declared.Begun.{Begun}
 use Rattle.spec.specs.declared.Progress.{Progress}
 use Rattle.spec.specs.declared.Progress.the-variants.{Stage, Waiting, Conflict, Done}
 use Rattle.spec.specs.Answers.{Answered}
-use Rattle.spec.specs.Bytes.{accepts, setUp}
+use Rattle.spec.specs.Calls.{cells}
+use Rattle.spec.specs.Bytes.{limitOf, accepts, setUp}
 use Rattle.spec.specs.Run.{Call, Begin, Read, Write, Advance, Abandon, Trim, Free, Memory, memoryOf, takes}
-use Rattle.spec.specs.Table.{Value, Values, has, Commit, Table, blank, Told, tell}
-use Rattle.spec.specs.Right.{tells, RightRun, AllListed, AllUnfit, AllFit}
+use Rattle.spec.specs.Table.{Value, Values, has, Commit, Open, Table, blank, Told, tell}
+use Rattle.spec.specs.Right.{boundsOf, valued, tells, RightRun, AllListed, AllUnfit, AllFit}
 
 -- ---- what a list of calls leaves
 
@@ -45,6 +46,12 @@ Committed x l = (e : Commit) × List·Memᴰ e l × (e .wrote x ≡ true)
 pub record Valued (x : ℕ) (t : Values) (l : List Commit) : Type 0 where
   pub ever : has (t x) ≡ true → Committed x l
   pub still : Committed x l → has (t x) ≡ true
+
+-- ---- the cell limit
+
+-- no open client has written more cells than the limit
+abbrev pub Capped : ℕ → Table → Type 0
+Capped limit t = (k : ℕ) (o : Open) → t .clients k ≡ some o → valued cells (o .writes) ≤ limit
 
 -- ---- what happens between two calls of one transaction
 
@@ -125,7 +132,7 @@ Enquiry m qs =
 pub record Demand3 (d c : List ℕ) (w l : ℕ) (qs : List Call) : Type 0 where
   -- every answer is right by the plain table that was told the calls and answers before it: `Right` says what that is for each call, beside
   -- document 01's sentences, from "the snapshot that Begin answers is the last of them" to the free figure "after an answered Trim"
-  pub right : RightRun (setUp d c w l .store .rows) 0 blank (memoryOf (setUp d c w l)) qs
+  pub right : RightRun (boundsOf d l) 0 blank (memoryOf (setUp d c w l)) qs
   -- "Numbers in the book rise"
   pub rising : Rising (tableAfter qs (memoryOf (setUp d c w l)) blank .book)
   -- "the cells with a value in the table: those are the cells ever committed"
@@ -138,6 +145,9 @@ pub record Demand3 (d c : List ℕ) (w l : ℕ) (qs : List Call) : Type 0 where
   pub unbroken : Unbroken (memoryOf (setUp d c w l)) qs
   -- document 02, 2: "Advance at stage 0 with nothing written now answers Done with the snapshot number": at once, whatever the others do
   pub enquiry : Enquiry (memoryOf (setUp d c w l)) qs
+  -- document 02, 9: "one runaway box can use many rows. A cell limit of 0 at set-up now stands for 8": a transaction has written at most as many
+  -- cells as the limit says, whatever was called
+  pub capped : Capped (limitOf l) (tableAfter qs (memoryOf (setUp d c w l)) blank)
   -- "Refusal by operation": a refused call gets one of the numbers listed for it; 11 is in no list: it "never occurs any more" (document 02, 2)
   pub listed : AllListed (memoryOf (setUp d c w l)) qs
   -- "after a refused one every call gets 2"

@@ -227,11 +227,14 @@ pub fn acceptable(d: usize, c: usize, first: u32, limit: u32) -> bool
     limit <= 64
 }
 
-// The cell limit: 0 stands for 16.
+// The cell limit that 0 at set-up stands for.
+pub const DEFAULT_LIMIT: u32 = 8;
+
+// The cell limit that a set-up was given.
 pub fn given_limit(limit: u32) -> u32
     ensures { λ r. ⌜ r ≡ limitOf limit ⌝ }
 {
-    if limit == 0 { 16 } else { limit }
+    if limit == 0 { DEFAULT_LIMIT } else { limit }
 }
 
 // ---- Trim

@@ -2,11 +2,13 @@
 -- Assumes nothing.
 use Prim.Native.Nat.{ℕ, _≤_, _<_}
 use mathlib.Core.Path.{_≡_, refl}
-use mathlib.Core.Bool.{true}
+use mathlib.Core.Bool.{Bool, true, false}
 use mathlib.Core.Logic.{_⊎_, inl, inr}
 use mathlib.Core.List.{List, [], _∷_}
 use lib.ListN.{length, getD, set, replicate}
-use borrow.Author.Tests.{le-leb, lt-leb, eq-eqb, ne-eqb}
+use native.Mathlib.Omega.{arith}
+use borrow.Author.Tests.{le-ltb, le-leb, lt-leb, eq-eqb, ne-eqb}
+use Rattle.sets.specs.Choice.{if_then_else_}
 use Rattle.sets.specs.Set.{clients, bit, member, remove, size}
 use Rattle.rows.specs.Rows.{number, bytesOf, dataRow, tagOf, cellOf, commitRow, commitNumber, commitTag, filter, hasTag}
 use Rattle.search.specs.Numbers.{lesser, smallest, above}
@@ -14,10 +16,41 @@ use Rattle.search.specs.Look.{commitOf, isOwn}
 use Rattle.search.specs.Share.{any, wrote, cellsOf, clash, conflict}
 use Rattle.trimming.specs.Trim.{between, later, overtaken, stays, trimmedRows, inUse, trimmedCommits}
 use Rattle.spec.specs.declared.Progress.the-variants.{Waiting, Conflict, Done}
-use Rattle.spec.specs.Answers.{wrongStage, cellLimit}
-use Rattle.spec.specs.Image.{Clients, Image, countersOf, clientsOf, imageOf, withClients, withRows, cleared, closed, stageOf, numberOf, isOpen, zeros}
+use Rattle.spec.specs.Answers.{Answer, Answered, Refused, wrongStage, cellLimit}
+use Rattle.spec.specs.Image.{Clients, Image, countersOf, clientsOf, imageOf, withClients, withRows, cleared, closed, stageOf, numberOf, isOpen, zeros, empty}
 use Rattle.spec.specs.Calls.{cells, top, gives, refuse, read, write, added, removed, abandon, readers, low, trimmedTo, trim}
 use Rattle.spec.specs.Steps.{goOn, finished, enter, looked, check, advance}
+use Rattle.spec.specs.Bytes.{countersIn, clientsIn, recordOf, storeOf, After, leaves, accepts, setUp}
+
+-- ---- the cell limit (document 02, 9): d and c are the bytes of the buffers, w the first W
+
+-- "A cell limit of 0 at set-up now stands for 8": a set-up with 0 is one with 8
+pub zero-is-eight : (d c : List ℕ) (w : ℕ) → setUp d c w 0 ≡ setUp d c w 8
+unfolding setUp accepts
+zero-is-eight d c w = refl
+
+-- what a set-up left, with another cell limit in the record where it was answered
+abbrev limited : ℕ → After ℕ → Answer ℕ → After ℕ
+limited l a (Answered n) =
+    leaves (recordOf (a .store .rows) l (countersIn (a .store)) (clientsIn (a .store)) (a .store .used) (a .store .entries)) (a .dataBytes) (a .commitBytes) (Answered n)
+limited l a (Refused n) = a
+
+abbrev pub withLimit : ℕ → After ℕ → After ℕ
+withLimit l a = limited l a (a .answer)
+
+if-limited : (l : ℕ) (b : Bool) (x y z : After ℕ) → x ≡ withLimit l y → z ≡ withLimit l z → (if b then x else z) ≡ withLimit l (if b then y else z)
+if-limited l true x y z e f = e
+if-limited l false x y z e f = f
+
+-- "The tournament desk relied on 16 and sets 16 by name": the record's limit is 16, and all else is as 0 leaves it
+pub sixteen-by-name : (d c : List ℕ) (w : ℕ) → setUp d c w 16 ≡ withLimit 16 (setUp d c w 0)
+unfolding setUp accepts storeOf empty
+sixteen-by-name d c w = if-limited 16 (accepts (length d) (length c) w 0) _ _ _ refl refl
+
+-- so of every limit up to 64 that a set-up names
+pub by-name : (d c : List ℕ) (w l : ℕ) → 1 ≤ l → l ≤ 64 → setUp d c w l ≡ withLimit l (setUp d c w 0)
+unfolding setUp accepts storeOf empty
+by-name d c w l h g = rw (le-ltb 64 l g, ne-eqb l 0 (λ e. omega arith)) (if-limited l (accepts (length d) (length c) w 0) _ _ _ refl refl)
 
 -- ---- refusals
 

@@ -5,7 +5,7 @@ use Prim.Native.Nat.{ℕ, _+_, _-_, _^_, _≤_, _<_}
 use mathlib.Core.Path.{_≡_, refl, sym, ap, _∙_}
 use mathlib.Core.Logic.{_≢_, if-pos, if-neg, by-cases}
 use mathlib.Core.Bool.{true, false, not, _&&_}
-use mathlib.Core.List.{[], _∷_, _++_, map}
+use mathlib.Core.List.{[], _∷_, _++_, map, List·Memᴰ as In}
 use mathlib.Core.Option.{Option, none, some}
 use native.Mathlib.Decide.{ℕ-discrete}
 use native.Mathlib.Numerals.{add-one}
@@ -22,7 +22,7 @@ use Rattle.search.specs.Share.{any, shares, conflict}
 use Rattle.spec.specs.declared.Progress.the-variants.{Stage, Waiting, Done}
 use Rattle.spec.specs.Answers.{Answered, noClient, notOpen}
 use Rattle.spec.specs.Image.{Clients, Image, withClients, withRows, withRequested, withTaken, withLast, setRequest, setCommit, setBlockers, setAhead, isOpen, stageOf, numberOf, snapshotOf, requestOf, commitNumberOf}
-use Rattle.spec.specs.Calls.{gives, top}
+use Rattle.spec.specs.Calls.{cells, gives, top}
 use Rattle.spec.specs.Steps as st
 use Rattle.spec.specs.Steps.{requests, commits, struck, others, steps, noStep}
 use Rattle.spec.specs.Run.{Advance}
@@ -38,10 +38,11 @@ use Rattle.spec.proofs.Listings.{count-view, size-none, size-zero, phas
 use Rattle.spec.proofs.Does.{seenAs, Does, does, does-if, not-open, opens}
 use Rattle.spec.proofs.Simple.{number-of, removed-view}
 
--- what the steps ask of the image: numbers of 32 bits, a number to be taken, and a free committed row
+-- what the calls ask of the image: numbers of 32 bits, cells that there are, a number to be taken, and a free committed row
 pub record Ready (i : Image) : Type 0 where
   pub fine : Wellformed i
   pub numbers : (k : ℕ) → numberOf i k < 4294967296
+  pub inside : (r : DRow) → In r (view i .dat) → r .cell < cells
   pub commits : (k : ℕ) → stageOf i k ≡ 11 → commitNumberOf i k < 4294967296
   pub request : (k : ℕ) → k < clients → 1 ≤ view i .cl k .number → stageOf i k ≡ 1 → i .counters .requested < top
   pub commit : (k : ℕ) → k < clients → 1 ≤ view i .cl k .number → stageOf i k ≡ 7 → i .counters .taken < top

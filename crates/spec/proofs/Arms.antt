@@ -18,14 +18,15 @@ use Rattle.spec.proofs.Took.{HasRow}
 use Rattle.spec.proofs.Invariant.{lateness, Rel, Always, RQ, CQ, Inv}
 use Rattle.spec.proofs.Moves.{put-at, setP-at, setP-off, each, Tame, tame-same, tame-C, off, others-R, others-C, stepped, moves}
 use Rattle.spec.specs.Table.{Told}
+use Rattle.spec.specs.Right.{Bounds}
 use Rattle.spec.specs.declared.Progress.the-variants.{Stage, Waiting}
 use Rattle.spec.specs.Answers.{Answer, Answered}
 use Rattle.spec.specs.Run.{Call, Advance}
 use Rattle.sets.specs.Set.{clients}
 
 -- A call's outcome: the answer is right, and the invariant holds afterwards.
-abbrev pub Good : ℕ → State → Plain → (q : Call) → Out (Answer (Told q)) → Type 0
-Good rows s p q o = Right rows (s .W) p q (o .answer) (free (o .state)) × Inv rows (o .state) (plain p q (o .answer))
+abbrev pub Good : Bounds → State → Plain → (q : Call) → Out (Answer (Told q)) → Type 0
+Good bounds s p q o = Right bounds (s .W) p q (o .answer) (free (o .state)) × Inv bounds (o .state) (plain p q (o .answer))
 
 pub cph-in : (k : ℕ) → k < 13 → cphase k ≡ min (k - 6) 5
 unfolding cphase
@@ -52,7 +53,7 @@ sharing d t u h =
     let e = value-at t (h .0) (r .0) (w .0) (r .2) in
     (r .0, r .1, (e .0, rw (e .1) (h .2)))
 
-module _ {rows : ℕ} {s : State} {p : Plain} (inv : Inv rows s p) (a : ℕ) (isopen : 1 ≤ s .cl a .number) where
+module _ {bounds : Bounds} {s : State} {p : Plain} (inv : Inv bounds s p) (a : ℕ) (isopen : 1 ≤ s .cl a .number) where
   pub right-stage : (k : ℕ) → k ≡ suc (s .cl a .stage) → k ≢ 6 → k ≢ 12 → (k ≡ 1 → Wrote (p .cl a)) → RightAdvance p a (Answered (Stage k))
   right-stage k e m n w = (inv .one a .live isopen, (omega (arith, inv .one a .on-stage), w, λ h. absurd (m h), λ h. absurd (n h)))
 
@@ -62,7 +63,7 @@ module _ {rows : ℕ} {s : State} {p : Plain} (inv : Inv rows s p) (a : ℕ) (is
       (not8 : c .stage ≢ 8) (not12 : c .stage ≢ 12) (not6 : c .stage ≢ 6)
       (wrote : c .stage ≡ 1 → Wrote (p .cl a)) where
     pub goes : RQ (stepped s R (s .C) (put a c f (s .cl))) → CQ (stepped s R (s .C) (put a c f (s .cl)))
-        → Good rows s p (Advance a) (out (stepped s R (s .C) (put a c f (s .cl))) (Answered (Stage (c .stage))))
+        → Good bounds s p (Advance a) (out (stepped s R (s .C) (put a c f (s .cl))) (Answered (Stage (c .stage))))
     unfolding plain onAdvance onProgress
     goes rq cq = (
       right-stage (c .stage) e not6 not12 wrote,
@@ -124,7 +125,7 @@ module _ {rows : ℕ} {s : State} {p : Plain} (inv : Inv rows s p) (a : ℕ) (is
   to k = atStage (s .cl a) k
 
   module _ (k : ℕ) (e : k ≡ suc (s .cl a .stage)) (n6 : k ≢ 6) (n8 : k ≢ 8) (n12 : k ≢ 12) (wrote : k ≡ 1 → Wrote (p .cl a)) where
-    simply : RQ (stepped s (s .R) (s .C) (put a (to k) same (s .cl))) → CQ (stepped s (s .R) (s .C) (put a (to k) same (s .cl))) → Good rows s p (Advance a) (step-to s a k)
+    simply : RQ (stepped s (s .R) (s .C) (put a (to k) same (s .cl))) → CQ (stepped s (s .R) (s .C) (put a (to k) same (s .cl))) → Good bounds s p (Advance a) (step-to s a k)
     simply rq cq = goes (to k) same (tame-same a) (s .R) e refl refl refl n8 n12 n6 wrote rq cq
 
   pub le : {x : ℕ} → x ≤ x
@@ -136,13 +137,13 @@ module _ {rows : ℕ} {s : State} {p : Plain} (inv : Inv rows s p) (a : ℕ) (is
   row-wrote h r =
       (r .0 .cell, rw (inv .tab .mine a isopen .held (omega arith) (r .0 .cell)) at (row-find (s .cl a .number) (r .0 .cell) (s .dat) (r .0) (r .1) (r .2) refl))
 
-  pub arm0 : s .cl a .stage ≡ 0 → HasRow (s .cl a .number) (s .dat) → Good rows s p (Advance a) (step-to s a 1)
+  pub arm0 : s .cl a .stage ≡ 0 → HasRow (s .cl a .number) (s .dat) → Good bounds s p (Advance a) (step-to s a 1)
   unfolding rphase
   arm0 e r = simply 1 (omega arith) (omega arith) (omega arith) (omega arith) (λ _. row-wrote (omega arith) r)
       (R-low (to 1) same (tame-same a) refl (s .R) (s .C) le le (omega arith))
       (C-low (to 1) same (tame-same a) refl (s .R) (s .C) le le (omega (arith, cph-in 1 (omega arith))))
 
-  pub arm1 : s .cl a .stage ≡ 1 → Good rows s p (Advance a) (takeR s a)
+  pub arm1 : s .cl a .stage ≡ 1 → Good bounds s p (Advance a) (takeR s a)
   unfolding rphase takeR
   arm1 e = goes c same (tame-same a) (suc (s .R)) (omega arith) refl refl refl (omega arith) (omega arith) (omega arith) (λ h. absurd (omega arith))
       (R-taken c same (tame-same a) refl (suc (s .R)) (s .C) (omega arith) le (omega arith) refl refl)
@@ -151,7 +152,7 @@ module _ {rows : ℕ} {s : State} {p : Plain} (inv : Inv rows s p) (a : ℕ) (is
       c : Client
       c = withRequest (s .cl a) 2 (suc (s .R))
 
-  pub arm2 : s .cl a .stage ≡ 2 → Good rows s p (Advance a) (step-to s a 3)
+  pub arm2 : s .cl a .stage ≡ 2 → Good bounds s p (Advance a) (step-to s a 3)
   unfolding rphase
   arm2 e = simply 3 (omega arith) (omega arith) (omega arith) (omega arith) (λ h. absurd (omega arith))
       (R-own (to 3) same (tame-same a) refl (s .R) (s .C) le le (λ d. refl) (omega arith) refl (λ h. absurd (omega arith)) (λ h. absurd (omega arith)))
@@ -160,7 +161,7 @@ module _ {rows : ℕ} {s : State} {p : Plain} (inv : Inv rows s p) (a : ℕ) (is
   open-below : (b : ℕ) → 1 ≤ s .cl b .stage → b < clients
   open-below b h = inv .one b .below (by-cases (ℕ-discrete (s .cl b .number) 0) (λ e. absurd (omega (arith, inv .one b .idle e))) (λ n. omega arith))
 
-  pub arm3 : s .cl a .stage ≡ 3 → Good rows s p (Advance a) (listR s a)
+  pub arm3 : s .cl a .stage ≡ 3 → Good bounds s p (Advance a) (listR s a)
   unfolding rphase listR
   arm3 e = goes c same (tame-same a) (s .R) (omega arith) refl refl refl (omega arith) (omega arith) (omega arith) (λ h. absurd (omega arith))
       (R-own c same (tame-same a) refl (s .R) (s .C) le le (λ d. refl) (omega arith) refl
@@ -174,7 +175,7 @@ module _ {rows : ℕ} {s : State} {p : Plain} (inv : Inv rows s p) (a : ℕ) (is
   -- A waiting client's place: nothing of the plain table changes.
   waits : (c : Client) → c .stage ≡ s .cl a .stage → c .number ≡ s .cl a .number → c .snapshot ≡ s .cl a .snapshot → c .commit ≡ s .cl a .commit → (p .cl a .stage ≡ 4) ⊎ (p .cl a .stage ≡ 10) → (n : ℕ)
       → RQ (stepped s (s .R) (s .C) (put a c same (s .cl))) → CQ (stepped s (s .R) (s .C) (put a c same (s .cl)))
-      → Good rows s p (Advance a) (out (stepped s (s .R) (s .C) (put a c same (s .cl))) (Answered (Waiting n)))
+      → Good bounds s p (Advance a) (out (stepped s (s .R) (s .C) (put a c same (s .cl))) (Answered (Waiting n)))
   unfolding plain onAdvance onProgress
   waits c e number snapshot commit at n rq cq = (
     (inv .one a .live isopen, at),
@@ -186,10 +187,10 @@ module _ {rows : ℕ} {s : State} {p : Plain} (inv : Inv rows s p) (a : ℕ) (is
         (λ h h′. inv .one a .fresh (omega arith) (omega arith)),
   )
 
-  pub arm4 : s .cl a .stage ≡ 4 → Good rows s p (Advance a) (lookR s a (look (rph s) (λ b. s .cl b .request) a (s .cl a .rwait)))
+  pub arm4 : s .cl a .stage ≡ 4 → Good bounds s p (Advance a) (lookR s a (look (rph s) (λ b. s .cl b .request) a (s .cl a .rwait)))
   unfolding rphase lookR
   arm4 e =
-      ite-elim (Good rows s p (Advance a)) (ℕ-discrete (count clients w) 0)
+      ite-elim (Good bounds s p (Advance a)) (ℕ-discrete (count clients w) 0)
       (λ z. goes (c 5) same (tame-same a) (s .R) (omega arith) refl refl refl (omega arith) (omega arith) (omega arith) (λ h. absurd (omega arith))
       (R-own (c 5) same (tame-same a) refl (s .R) (s .C) le le (λ d. refl) (omega arith) refl
       (λ h. absurd (omega arith))
@@ -215,7 +216,7 @@ module _ {rows : ℕ} {s : State} {p : Plain} (inv : Inv rows s p) (a : ℕ) (is
     unfolding rphase
     R-past = R-stay c f tame number (s .R) C le hC fr (omega arith) request (omega arith) wait
 
-  pub arm6 : s .cl a .stage ≡ 6 → Good rows s p (Advance a) (step-to s a 7)
+  pub arm6 : s .cl a .stage ≡ 6 → Good bounds s p (Advance a) (step-to s a 7)
   arm6 e = simply 7 (omega arith) (omega arith) (omega arith) (omega arith) (λ h. absurd (omega arith))
       (R-past (to 7) same (tame-same a) (λ d. refl) refl (s .C) le (omega arith) (omega arith) refl refl)
       (C-low (to 7) same (tame-same a) refl (s .R) (s .C) le le (omega (arith, cph-in 7 (omega arith))))
@@ -224,7 +225,7 @@ module _ {rows : ℕ} {s : State} {p : Plain} (inv : Inv rows s p) (a : ℕ) (is
   unfolding onStage
   onStage-took = if-pos (ℕ-discrete 8 8) refl _ _
 
-  pub arm7 : s .cl a .stage ≡ 7 → Good rows s p (Advance a) (takeC s a)
+  pub arm7 : s .cl a .stage ≡ 7 → Good bounds s p (Advance a) (takeC s a)
   unfolding plain onAdvance onProgress takeC
   arm7 e = (
     right-stage 8 (omega arith) (omega arith) (omega arith) (λ h. absurd (omega arith)),
@@ -242,7 +243,7 @@ module _ {rows : ℕ} {s : State} {p : Plain} (inv : Inv rows s p) (a : ℕ) (is
       c : Client
       c = withCommit (s .cl a) 8 (suc (s .C))
 
-  pub arm8 : s .cl a .stage ≡ 8 → Good rows s p (Advance a) (step-to s a 9)
+  pub arm8 : s .cl a .stage ≡ 8 → Good bounds s p (Advance a) (step-to s a 9)
   arm8 e = simply 9 (omega arith) (omega arith) (omega arith) (omega arith) (λ h. absurd (omega arith))
       (R-past (to 9) same (tame-same a) (λ d. refl) refl (s .C) le (omega arith) (omega arith) refl refl)
       (C-own (to 9) same (tame-same a) refl (s .R) (s .C) le le (λ d. refl) (omega (arith, cph-in (s .cl a .stage) (omega arith))) refl
@@ -252,7 +253,7 @@ module _ {rows : ℕ} {s : State} {p : Plain} (inv : Inv rows s p) (a : ℕ) (is
   cph-below : (b : ℕ) → 1 ≤ cph s b → b < clients
   cph-below b h = open-below b (by-cases (decLe 13 (s .cl b .stage)) (λ k. omega arith) (λ k. omega (arith, cph-in (s .cl b .stage) (omega arith))))
 
-  pub arm9 : s .cl a .stage ≡ 9 → Good rows s p (Advance a) (listC s a)
+  pub arm9 : s .cl a .stage ≡ 9 → Good bounds s p (Advance a) (listC s a)
   unfolding listC
   arm9 e = goes c same (tame-same a) (s .R) (omega arith) refl refl refl (omega arith) (omega arith) (omega arith) (λ h. absurd (omega arith))
       (R-past c same (tame-same a) (λ d. refl) refl (s .C) le (omega arith) (omega arith) refl refl)
@@ -263,10 +264,10 @@ module _ {rows : ℕ} {s : State} {p : Plain} (inv : Inv rows s p) (a : ℕ) (is
       c : Client
       c = withCwait (s .cl a) 10 (listing (cph s) {P = λ _. Unit {0}} (λ _. yes tt) a)
 
-  pub arm10 : s .cl a .stage ≡ 10 → Good rows s p (Advance a) (lookC s a (look (cph s) (λ b. s .cl b .commit) a (s .cl a .cwait)))
+  pub arm10 : s .cl a .stage ≡ 10 → Good bounds s p (Advance a) (lookC s a (look (cph s) (λ b. s .cl b .commit) a (s .cl a .cwait)))
   unfolding lookC
   arm10 e =
-      ite-elim (Good rows s p (Advance a)) (ℕ-discrete (count clients w) 0)
+      ite-elim (Good bounds s p (Advance a)) (ℕ-discrete (count clients w) 0)
       (λ z. goes (c 11) same (tame-same a) (s .R) (omega arith) refl refl refl (omega arith) (omega arith) (omega arith) (λ h. absurd (omega arith))
       (R-past (c 11) same (tame-same a) (λ d. refl) refl (s .C) le (omega arith) (omega arith) refl refl)
       (C-own (c 11) same (tame-same a) refl (s .R) (s .C) le le (λ d. refl) (omega (arith, cph-in (s .cl a .stage) (omega arith))) refl
@@ -288,7 +289,7 @@ module _ {rows : ℕ} {s : State} {p : Plain} (inv : Inv rows s p) (a : ℕ) (is
           look-keeps (cph s) (λ b. s .cl b .commit) a (s .cl a .cwait) b (omega arith) (omega arith)
           ∙ inv .cq .listed b a n hb (omega (arith, cph-in (s .cl a .stage) (omega arith))) r l
 
-  pub arm12 : s .cl a .stage ≡ 12 → Good rows s p (Advance a) (out (withClients s (put a (atStage (clearC a (s .cl a)) 13) (clearC a) (s .cl))) (Answered (Stage 13)))
+  pub arm12 : s .cl a .stage ≡ 12 → Good bounds s p (Advance a) (out (withClients s (put a (atStage (clearC a (s .cl a)) 13) (clearC a) (s .cl))) (Answered (Stage 13)))
   arm12 e = goes (atStage (clearC a (s .cl a)) 13) (clearC a) (tame-C a) (s .R) (omega arith) refl refl refl (omega arith) (omega arith) (omega arith) (λ h. absurd (omega arith))
       (R-past (atStage (clearC a (s .cl a)) 13) (clearC a) (tame-C a) (λ d. refl) refl (s .C) le (omega arith) (omega arith) refl refl)
       (C-low (atStage (clearC a (s .cl a)) 13) (clearC a) (tame-C a) refl (s .R) (s .C) le le (omega (arith, cph-out 13 (omega arith))))

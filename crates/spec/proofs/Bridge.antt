@@ -99,10 +99,6 @@ module _ (d c : List ℕ) (w l : ℕ) (e : accepts (length d) (length c) w l ≡
       let a = accepted (length d) (length c) w l e in
       rw (e, sub-zero (length d / 24), ← a .dataLength, ← a .commitLength)
 
-  pub set-up-rows : setUp d c w l .store .rows ≡ length d / 24
-  unfolding setUp storeOf empty
-  set-up-rows = rw e
-
   pub first-fine : Wellformed (first d w l)
   first-fine = let a = accepted (length d) (length c) w l e in empty-fine (length d / 24) (limitOf l) (w - 1) (a .some) (a .most)
 

@@ -3,7 +3,7 @@
 -- commit number has a smaller one (`first-one`, by the commit queue), so numbers in the book rise.
 -- Assumes nothing.
 use Prim.Native.Nat.{ℕ, zero, suc, _-_, min, _≤_, _<_}
-use mathlib.Core.Path.{_≡_, refl, sym, _∙_, ap, subst}
+use mathlib.Core.Path.{_≡_, refl, sym, _∙_, ap, subst, fun-ext}
 use mathlib.Core.Logic.{_≢_, inl, inr, if-pos, if-neg, by-cases}
 use mathlib.Core.Bool.{true, false, true≢false}
 use mathlib.Core.List.{List, _∷_, List·Memᴰ·head as here, List·Memᴰ·tail as there}
@@ -12,7 +12,7 @@ use native.Mathlib.Decide.{ℕ-discrete, decLe, decLt}
 use native.Mathlib.Omega.{arith}
 use Rattle.spec.proofs.Lists.{in-case, none-some, option-case}
 use Rattle.spec.proofs.Tickets.{Queue, low, exclusive}
-use Rattle.spec.proofs.Model.{newcomer, DRow, Client, State, find, rphase, cphase, rph, cph, put, same, closed, clearBoth, atStage, out, checked, committed, begun, lookup, committedAt, figured, free, without, leave, removed, withData, trimmed, smallest, checkKey, snapshots, lesser, default, low as lowOf}
+use Rattle.spec.proofs.Model.{newcomer, DRow, Client, State, find, written, rphase, cphase, rph, cph, put, same, closed, clearBoth, atStage, out, checked, committed, begun, lookup, committedAt, figured, free, without, leave, removed, withData, trimmed, smallest, checkKey, snapshots, lesser, default, low as lowOf}
 use Rattle.spec.proofs.Plain.{restaged, onProgress, opening, rewritten, Entry, PClient, Plain, NoClash, setP, plain, onBegin, onWrite, onAbandon, onAdvance, onStage, made, ended, none-yet, Shares}
 use Rattle.spec.proofs.Invariant.{Seen, view, lateness, Tab, One, Rel, Always, Inv}
 use Rattle.spec.proofs.Moves.{put-at, put-off, setP-at, setP-off, each, Tame, tame-same, tame-both, others-R, others-C, moves, seenOf, seen-off, seen-at, one-off}
@@ -21,14 +21,15 @@ use Rattle.spec.proofs.Took.{HasRow}
 use Rattle.spec.proofs.Tables.{tab-done, tab-removed, tab-begun, tab-written, tab-committed, tab-trimmed, trimDat, was}
 use Rattle.spec.proofs.Lookups.{read-right, check-none, check-least, trim-count}
 use Rattle.spec.proofs.Arms.{Good, cph-in, onStage-moved, R-past, C-low, C-own, late-step}
-use Rattle.spec.specs.Table.{Value, orElse}
+use Rattle.spec.specs.Table.{Value, Values, orElse}
+use Rattle.spec.specs.Right.{Bounds, WriteAnswer, WriteRefusal, for-cell, for-length, for-stage, for-limit, for-rows}
 use Rattle.spec.specs.declared.Progress.the-variants.{Done}
-use Rattle.spec.specs.Answers.{Answered}
+use Rattle.spec.specs.Answers.{Answered, cellLimit, noFreeRow}
 use Rattle.spec.specs.Run.{Begin, Read, Write, Advance, Abandon, Trim}
 use Rattle.sets.specs.Set.{clients}
 use Rattle.spec.specs.Calls.{cells}
 
-module _ {rows : ℕ} {s : State} {p : Plain} (inv : Inv rows s p) (a : ℕ) where
+module _ {bounds : Bounds} {s : State} {p : Plain} (inv : Inv bounds s p) (a : ℕ) where
   -- Client a ends outside both queues, and the rows of the others are no more than they were.
   module _ (c : Client) (f : Client → Client) (tame : Tame a f) (h : c .stage ≡ 0) where
     R-out : (dat′ : List DRow) → ((b : ℕ) → b ≢ a → 1 ≤ s .cl b .number → (x : ℕ) → IsSome (find (s .cl b .number) x dat′) → IsSome (find (s .cl b .number) x (s .dat)))
@@ -48,12 +49,12 @@ module _ {rows : ℕ} {s : State} {p : Plain} (inv : Inv rows s p) (a : ℕ) whe
     C-out : Queue (λ b. cphase (put a c f (s .cl) b .stage)) (λ b. put a c f (s .cl) b .commit) (λ b. put a c f (s .cl) b .cwait) (s .C) Always
     C-out = low a (inv .cq) (others-C a c f tame (s .cl) (omega arith)) (rw (put-at a c f (s .cl), h) (omega (arith, cph-in 0 (omega arith))))
 
-  pub begin-good : a < clients → s .cl a .number ≡ 0 → Good rows s p (Begin a) (begun s a)
+  pub begin-good : a < clients → s .cl a .number ≡ 0 → Good bounds s p (Begin a) (begun s a)
   unfolding begun plain onBegin lateness
   begin-good h was = (
     (inv .one a .dead was, sym (inv .tab .book-last), refl),
     record {
-      same-rows = inv .same-rows;
+      same-bounds = inv .same-bounds;
       counted = inv .counted;
       last-le = inv .last-le;
       one = each a (λ b. One (s .last) (p .book) b (put a c same (s .cl) b .number) (put a c same (s .cl) b .stage) (put a c same (s .cl) b .commit) (setP a q (p .cl) b))
@@ -83,10 +84,10 @@ module _ {rows : ℕ} {s : State} {p : Plain} (inv : Inv rows s p) (a : ℕ) whe
 
   -- Client a is closed.
   leaves : (dat′ : List DRow) → ((b : ℕ) → b ≢ a → 1 ≤ s .cl b .number → (x : ℕ) → IsSome (find (s .cl b .number) x dat′) → IsSome (find (s .cl b .number) x (s .dat)))
-      → Tab dat′ (s .comm) (s .last) (s .W) (p .table) (p .book) (view (leave s a dat′) (ended p a)) → Inv rows (leave s a dat′) (ended p a)
+      → Tab dat′ (s .comm) (s .last) (s .W) (p .table) (p .book) (view (leave s a dat′) (ended p a)) → Inv bounds (leave s a dat′) (ended p a)
   unfolding closed none-yet
   leaves dat′ sub tab = record {
-    same-rows = inv .same-rows;
+    same-bounds = inv .same-bounds;
     counted = inv .counted;
     last-le = inv .last-le;
     one = each a (λ b. One (s .last) (p .book) b (put a closed (clearBoth a) (s .cl) b .number) (put a closed (clearBoth a) (s .cl) b .stage) (put a closed (clearBoth a) (s .cl) b .commit) (setP a none-yet (p .cl) b))
@@ -114,18 +115,18 @@ module _ {rows : ℕ} {s : State} {p : Plain} (inv : Inv rows s p) (a : ℕ) whe
   unfolding closed
   closed-num = ap (λ (z : Seen). z .num) (seen-at a closed (clearBoth a) (s .cl) none-yet (p .cl))
 
-  leaves-removed : 1 ≤ s .cl a .number → s .cl a .stage ≤ 11 → Inv rows (removed s a) (ended p a)
+  leaves-removed : 1 ≤ s .cl a .number → s .cl a .stage ≤ 11 → Inv bounds (removed s a) (ended p a)
   unfolding lateness
   leaves-removed isopen h =
       leaves (without (s .cl a .number) (s .dat))
       (λ b m k x i. rw (find-without (s .cl a .number) (s .cl b .number) x (s .dat) (inv .tab .apart b a m k)) at i)
       (tab-removed (inv .tab) a closed-view closed-num isopen (omega arith))
 
-  pub abandon-good : 1 ≤ s .cl a .number → s .cl a .stage < 12 → Good rows s p (Abandon a) (figured (removed s a))
+  pub abandon-good : 1 ≤ s .cl a .number → s .cl a .stage < 12 → Good bounds s p (Abandon a) (figured (removed s a))
   unfolding plain onAbandon
   abandon-good isopen h = ((inv .one a .live isopen, omega (arith, inv .one a .on-stage)), leaves-removed isopen (omega arith))
 
-  pub arm13 : 1 ≤ s .cl a .number → s .cl a .stage ≡ 13 → Good rows s p (Advance a) (out (leave s a (s .dat)) (Answered (Done (s .cl a .commit))))
+  pub arm13 : 1 ≤ s .cl a .number → s .cl a .stage ≡ 13 → Good bounds s p (Advance a) (out (leave s a (s .dat)) (Answered (Done (s .cl a .commit))))
   unfolding plain onAdvance onProgress lateness
   arm13 isopen e = (
     (inv .one a .live isopen, inl (inv .one a .on-stage ∙ e, sym (inv .one a .numbered (omega arith)), inv .one a .in-book (omega arith))),
@@ -133,7 +134,7 @@ module _ {rows : ℕ} {s : State} {p : Plain} (inv : Inv rows s p) (a : ℕ) whe
   )
 
   -- Client a ends with nothing written: it has no row to remove.
-  pub arm0-ends : 1 ≤ s .cl a .number → s .cl a .stage ≡ 0 → (HasRow (s .cl a .number) (s .dat) → ⊥) → Good rows s p (Advance a) (out (leave s a (s .dat)) (Answered (Done (s .cl a .snapshot))))
+  pub arm0-ends : 1 ≤ s .cl a .number → s .cl a .stage ≡ 0 → (HasRow (s .cl a .number) (s .dat) → ⊥) → Good bounds s p (Advance a) (out (leave s a (s .dat)) (Answered (Done (s .cl a .snapshot))))
   unfolding plain onAdvance onProgress lateness
   arm0-ends isopen e n = (
     (
@@ -145,11 +146,11 @@ module _ {rows : ℕ} {s : State} {p : Plain} (inv : Inv rows s p) (a : ℕ) whe
         sym (inv .tab .mine a isopen .began),
       ),
     ),
-    subst (λ (d : List DRow). Inv rows (leave s a d) (ended p a)) (without-none (s .cl a .number) (s .dat) n) (leaves-removed isopen (omega arith)),
+    subst (λ (d : List DRow). Inv bounds (leave s a d) (ended p a)) (without-none (s .cl a .number) (s .dat) n) (leaves-removed isopen (omega arith)),
   )
 
   module _ (isopen : 1 ≤ s .cl a .number) (e : s .cl a .stage ≡ 5) where
-    passes : NoClash p a → Good rows s p (Advance a) (checked s a none)
+    passes : NoClash p a → Good bounds s p (Advance a) (checked s a none)
     unfolding checked plain onAdvance onProgress
     passes h = (
       (inv .one a .live isopen, (omega (arith, inv .one a .on-stage), λ k. absurd (omega arith), λ _. h, λ k. absurd (omega arith))),
@@ -168,7 +169,7 @@ module _ {rows : ℕ} {s : State} {p : Plain} (inv : Inv rows s p) (a : ℕ) whe
     unfolding lateness
     early = omega arith
 
-    pub arm5 : Good rows s p (Advance a) (checked s a (smallest (checkKey (s .dat) (s .comm) (s .cl a .number) (s .cl a .snapshot)) (s .dat)))
+    pub arm5 : Good bounds s p (Advance a) (checked s a (smallest (checkKey (s .dat) (s .comm) (s .cl a .number) (s .cl a .snapshot)) (s .dat)))
     unfolding checked plain onAdvance onProgress
     arm5 =
         option-case (smallest (checkKey (s .dat) (s .comm) (s .cl a .number) (s .cl a .snapshot)) (s .dat))
@@ -205,7 +206,7 @@ module _ {rows : ℕ} {s : State} {p : Plain} (inv : Inv rows s p) (a : ℕ) whe
         let y : IsSome (find (s .cl b .number) (w .0) (s .dat)) = rw (inv .tab .mine b ob .held (omega arith) (w .0)) (w .2) in
         exclusive (inv .rq) a b (λ z. m (sym z)) (omega arith) (omega arith) (w .0, x, y) (w .0, y, x)
 
-    pub arm11 : Good rows s p (Advance a) (committed s a)
+    pub arm11 : Good bounds s p (Advance a) (committed s a)
     unfolding committed plain onAdvance onProgress lateness
     arm11 = (
       (
@@ -221,7 +222,7 @@ module _ {rows : ℕ} {s : State} {p : Plain} (inv : Inv rows s p) (a : ℕ) whe
         ),
       ),
       rw (onStage-made, inv .one a .numbered (omega arith)) record {
-        same-rows = inv .same-rows;
+        same-bounds = inv .same-bounds;
         counted = inv .counted;
         last-le = inv .cq .bound a (omega (arith, five));
         one = each a (λ b. One (s .cl a .commit) (entry ∷ p .book) b (put a c same (s .cl) b .number) (put a c same (s .cl) b .stage) (put a c same (s .cl) b .commit) (setP a q (p .cl) b))
@@ -277,18 +278,41 @@ module _ {rows : ℕ} {s : State} {p : Plain} (inv : Inv rows s p) (a : ℕ) whe
     shows =
         rw (inv .tab .mine a isopen .held (omega arith) x, read-right (inv .tab) a isopen x, inv .tab .mine a isopen .copied x)
 
-    pub read-good : Good rows s p (Read a x) (out s (Answered (lookup s a x)))
+    pub read-good : Good bounds s p (Read a x) (out s (Answered (lookup s a x)))
     unfolding plain
     read-good = ((inv .one a .live isopen, shows, omega (arith, inv .one a .on-stage), below), inv)
 
+  -- What client a wrote by its rows is what it wrote by the plain table, up to its commit.
+  same-writes : 1 ≤ s .cl a .number → s .cl a .stage ≡ 0 → written s a ≡ p .cl a .writes
+  unfolding lateness
+  same-writes isopen e = fun-ext (λ x. inv .tab .mine a isopen .held (omega arith) x)
+
+  -- So what is said of a write by the rows holds by the plain table.
+  by-table : (F : ℕ → ℕ → Values → Type 0) → 1 ≤ s .cl a .number → s .cl a .stage ≡ 0 → F (s .bounds .limit) (s .cl a .stage) (written s a)
+      → F (bounds .limit) (p .cl a .stage) (p .cl a .writes)
+  by-table F isopen e h =
+      subst (λ (w : Values). F (bounds .limit) (p .cl a .stage) w) (same-writes isopen e)
+      (subst (λ (g : ℕ). F (bounds .limit) g (written s a)) (sym (inv .one a .on-stage))
+      (subst (λ (b : Bounds). F (b .limit) (s .cl a .stage) (written s a)) (inv .same-bounds) h))
+
+  pub write-refused : (x : ℕ) (v : Value) (r : ℕ) → 1 ≤ s .cl a .number → WriteRefusal (s .bounds .limit) (s .cl a .stage) (written s a) x v (Answered (free s)) r
+      → WriteRefusal (bounds .limit) (p .cl a .stage) (p .cl a .writes) x v (Answered (free s)) r
+  write-refused x v r isopen (for-cell h) = for-cell h
+  write-refused x v r isopen (for-length h l) = for-length h l
+  write-refused x v r isopen (for-stage h l e) = for-stage h l (omega (arith, inv .one a .on-stage))
+  write-refused x v r isopen (for-limit h l e n m) =
+      by-table (λ b g w. WriteRefusal b g w x v (Answered (free s)) cellLimit) isopen e (for-limit h l e n m)
+  write-refused x v r isopen (for-rows h l e n m f) =
+      by-table (λ b g w. WriteRefusal b g w x v (Answered (free s)) noFreeRow) isopen e (for-rows h l e n m f)
+
   -- A write.
-  module _ (x : ℕ) (v : Value) (below : x < cells) (isopen : 1 ≤ s .cl a .number) (e : s .cl a .stage ≡ 0) where
-    pub write-good : (dat′ : List DRow) → Written (s .cl a .number) x v (s .dat) dat′ → Good rows s p (Write a x v) (figured (withData s dat′ (s .cl)))
+  module _ (x : ℕ) (v : Value) (may : WriteAnswer (s .bounds .limit) (s .cl a .stage) (written s a) x v) (isopen : 1 ≤ s .cl a .number) where
+    pub write-good : (dat′ : List DRow) → Written (s .cl a .number) x v (s .dat) dat′ → Good bounds s p (Write a x v) (figured (withData s dat′ (s .cl)))
     unfolding plain onWrite rphase lateness
     write-good dat′ w = (
-      (inv .one a .live isopen, omega (arith, inv .one a .on-stage)),
+      (inv .one a .live isopen, by-table (λ b g w. WriteAnswer b g w x v) isopen (may .stage) may),
       record {
-        same-rows = inv .same-rows;
+        same-bounds = inv .same-bounds;
         counted = inv .counted;
         last-le = inv .last-le;
         one = each a (λ b. One (s .last) (p .book) b (s .cl b .number) (s .cl b .stage) (s .cl b .commit) (setP a q (p .cl) b))
@@ -312,11 +336,14 @@ module _ {rows : ℕ} {s : State} {p : Plain} (inv : Inv rows s p) (a : ℕ) whe
           concerns = λ b d hb hd r. (r .0, others b hb (r .0) (r .1), others d hd (r .0) (r .2));
         } (omega arith);
         cq = inv .cq;
-        tab = tab-written (inv .tab) a (λ b m. ap (λ (z : PClient). seenOf (s .cl b) z) (setP-off a q (p .cl) b m)) x v dat′ below isopen (omega arith) w
+        tab = tab-written (inv .tab) a (λ b m. ap (λ (z : PClient). seenOf (s .cl b) z) (setP-off a q (p .cl) b m)) x v dat′ (may .cell) isopen (omega (arith, e)) w
             (ap (λ (z : PClient). seenOf (s .cl a) z) (setP-at a q (p .cl)));
       },
     )
       where
+        e : s .cl a .stage ≡ 0
+        e = may .stage
+
         q : PClient
         q = rewritten (p .cl a) x v
 
@@ -360,7 +387,7 @@ snapshots-none zero cl h = refl
 snapshots-none (suc n) cl h = if-neg (decLe 1 (cl n .number)) (λ k. omega (arith, h n)) _ _ ∙ snapshots-none n cl h
 
 -- A trim.
-module _ {rows : ℕ} {s : State} {p : Plain} (inv : Inv rows s p) where
+module _ {bounds : Bounds} {s : State} {p : Plain} (inv : Inv bounds s p) where
   low-last : lowOf s ≤ s .last
   unfolding lowOf default
   low-last = option-case (snapshots clients (s .cl)) (λ e. rw e (omega arith))
@@ -388,12 +415,12 @@ module _ {rows : ℕ} {s : State} {p : Plain} (inv : Inv rows s p) where
   unfolding rphase
   nobody = by-cases (ℕ-discrete (s .cl clients .number) 0) (λ e. omega (arith, inv .one clients .idle e)) (λ n. absurd (omega (arith, inv .one clients .below (omega arith))))
 
-  pub trim-good : Good rows s p Trim (trimmed s)
+  pub trim-good : Good bounds s p Trim (trimmed s)
   unfolding trimmed plain free
   trim-good = (
-    λ h. rw (low-none (all-closed h), trim-count (inv .tab) (all-closed h), inv .same-rows),
+    λ h. rw (low-none (all-closed h), trim-count (inv .tab) (all-closed h), inv .same-bounds),
     record {
-      same-rows = inv .same-rows;
+      same-bounds = inv .same-bounds;
       counted = inv .counted;
       last-le = inv .last-le;
       one = inv .one;

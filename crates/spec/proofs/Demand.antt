@@ -19,10 +19,10 @@ use Rattle.spec.specs.Calls.{top, free}
 use Rattle.spec.specs.Bytes.{After, fits, limitOf, accepts, setUp}
 use Rattle.spec.specs.Run.{Call, Begin, Read, Write, Advance, Abandon, Trim, Free, Gives, perform, Memory, memoryOf, takes}
 use Rattle.spec.specs.Table.{Table, blank, Told, told, tell}
-use Rattle.spec.specs.Right.{Right, numberAfter, tells, RightRun, AllUnfit, AllFit}
+use Rattle.spec.specs.Right.{Bounds, boundsOf, Right, numberAfter, tells, RightRun, AllUnfit, AllFit}
 use Rattle.spec.proofs.Wellformed.{Wellformed, perform-kept, empty-fine}
 use Rattle.spec.proofs.Ends.{accepted}
-use Rattle.spec.proofs.Bridge.{whole, fits-whole, crossed, used-rows, first, set-up-whole, set-up-rows, first-fine, unused, refused-memory, refused-call}
+use Rattle.spec.proofs.Bridge.{whole, fits-whole, crossed, used-rows, first, set-up-whole, first-fine, unused, refused-memory, refused-call}
 use Rattle.spec.proofs.Lists.{none-some}
 use Rattle.spec.proofs.Model as m
 use Rattle.spec.proofs.Model.{State}
@@ -42,14 +42,14 @@ use Rattle.spec.proofs.Erase.{erase, erase-empty, feeds, right}
 
 -- ---- what holds between two calls; w is the last number that a Begin has answered
 
-pub record Good (rows w : ℕ) (i : Image) (p : Plain) : Type 0 where
+pub record Good (bounds : Bounds) (w : ℕ) (i : Image) (p : Plain) : Type 0 where
   pub fine : Wellformed i
-  pub inv : Inv rows (view i) p
+  pub inv : Inv bounds (view i) p
   pub under : Under-state (view i)
   pub room : Room-state (view i)
   pub numbers : Numbered w (view i .W)
 
-module _ {rows w : ℕ} {i : Image} {p : Plain} (g : Good rows w i p) where
+module _ {bounds : Bounds} {w : ℕ} {i : Image} {p : Plain} (g : Good bounds w i p) where
   within : view i .W ≤ top
   within = g .numbers .within
 
@@ -70,6 +70,7 @@ module _ {rows w : ℕ} {i : Image} {p : Plain} (g : Good rows w i p) where
   ready = record {
     fine = g .fine;
     numbers = own-number;
+    inside = g .inv .tab .row-cell;
     commits = own-commit;
     request = λ k h o e. omega (arith, R-left (view i) (g .under) k h o (omega (arith, e, stage-at i k)), within, R-at i);
     commit = λ k h o e. omega (arith, C-left (view i) (g .under) k h o (omega (arith, e, stage-at i k)), within, C-at i);
@@ -82,11 +83,11 @@ module _ {rows w : ℕ} {i : Image} {p : Plain} (g : Good rows w i p) where
 abbrev told-by : (q : Call) → Image → Answer (Told q)
 told-by q i = told q (perform q i .image .dataRows) (perform q i .answer)
 
-module _ {rows w : ℕ} {i : Image} {p : Plain} (g : Good rows w i p) (q : Call) where
+module _ {bounds : Bounds} {w : ℕ} {i : Image} {p : Plain} (g : Good bounds w i p) (q : Call) where
   took : Took (view i) q (seenAs q (perform q i))
   took = perform-does q i (ready g) (omega (arith, within g, W-at i)) .did
 
-  good-next : Good rows (numberAfter q (told-by q i) w) (perform q i .image) (plain p q (told-by q i))
+  good-next : Good bounds (numberAfter q (told-by q i) w) (perform q i .image) (plain p q (told-by q i))
   good-next = record {
     fine = perform-kept q i (g .fine) .fine;
     inv = good (g .inv) took .1;
@@ -95,14 +96,14 @@ module _ {rows w : ℕ} {i : Image} {p : Plain} (g : Good rows w i p) (q : Call)
     numbers = numbered (g .numbers) took;
   }
 
-  right-own : own.Right rows (view i .W) p q (told-by q i) (m.free (view (perform q i .image)))
+  right-own : own.Right bounds (view i .W) p q (told-by q i) (m.free (view (perform q i .image)))
   right-own = good (g .inv) took .0
 
-  right-now : Right rows w (erase p) q (told-by q i) (Answered (m.free (view (perform q i .image))))
-  right-now = right rows w (view i .W) (g .numbers .issued) p q (told-by q i) (m.free (view (perform q i .image))) right-own
+  right-now : Right bounds w (erase p) q (told-by q i) (Answered (m.free (view (perform q i .image))))
+  right-now = right bounds w (view i .W) (g .numbers .issued) p q (told-by q i) (m.free (view (perform q i .image))) right-own
 
   fed : tell q (told-by q i) (erase p) ≡ erase (plain p q (told-by q i))
-  fed = feeds rows (view i .W) p q (told-by q i) (m.free (view (perform q i .image))) right-own
+  fed = feeds bounds (view i .W) p q (told-by q i) (m.free (view (perform q i .image))) right-own
 
 free-answer : (i : Image) → perform Free i .answer ≡ Answered (m.free (view i))
 unfolding perform free
@@ -131,40 +132,42 @@ module _ (i : Image) (h : Wellformed i) (q : Call) where
       ∙ ap (λ (a : After ℕ). a .answer) (crossed next next-fine Free)
       ∙ free-answer next
 
-all-right : {rows : ℕ} (qs : List Call) (w : ℕ) (i : Image) (p : Plain) → Good rows w i p → RightRun rows w (erase p) (whole i) qs
+all-right : {bounds : Bounds} (qs : List Call) (w : ℕ) (i : Image) (p : Plain) → Good bounds w i p → RightRun bounds w (erase p) (whole i) qs
 all-right [] w i p g = tt
-all-right {rows} (q ∷ qs) w i p g =
+all-right {bounds} (q ∷ qs) w i p g =
     let h = g .fine in
     let e = same-told i h q in
     let j : Image = perform q i .image in
     let a : Answer (Told q) = told-by q i in (
-      subst (λ (x : Answer (Told q)). Right rows w (erase p) q x (takes Free (memoryOf (takes q (whole i))) .answer)) (sym e)
-          (subst (λ (x : Answer ℕ). Right rows w (erase p) q a x) (sym (free-next i h q)) (right-now g q)),
-      subst (λ (x : Answer (Told q)). RightRun rows (numberAfter q x w) (tell q x (erase p)) (memoryOf (takes q (whole i))) qs) (sym e)
-          (subst (λ (x : Memory). RightRun rows (numberAfter q a w) (tell q a (erase p)) x qs) (sym (same-memory i h q))
-          (subst (λ (x : Table). RightRun rows (numberAfter q a w) x (whole j) qs) (sym (fed g q)) (all-right qs (numberAfter q a w) j (plain p q a) (good-next g q)))),
+      subst (λ (x : Answer (Told q)). Right bounds w (erase p) q x (takes Free (memoryOf (takes q (whole i))) .answer)) (sym e)
+          (subst (λ (x : Answer ℕ). Right bounds w (erase p) q a x) (sym (free-next i h q)) (right-now g q)),
+      subst (λ (x : Answer (Told q)). RightRun bounds (numberAfter q x w) (tell q x (erase p)) (memoryOf (takes q (whole i))) qs) (sym e)
+          (subst (λ (x : Memory). RightRun bounds (numberAfter q a w) (tell q a (erase p)) x qs) (sym (same-memory i h q))
+          (subst (λ (x : Table). RightRun bounds (numberAfter q a w) x (whole j) qs) (sym (fed g q)) (all-right qs (numberAfter q a w) j (plain p q a) (good-next g q)))),
     )
 
-start-numbers : (n w : ℕ) → w ≤ top → Numbered 0 (m.fresh n w .W)
+start-numbers : (b : Bounds) (w : ℕ) → w ≤ top → Numbered 0 (m.fresh b w .W)
 unfolding m.fresh
-start-numbers n w k = record { issued = omega arith; within = k }
+start-numbers b w k = record { issued = omega arith; within = k }
 
-start-good : (n l w : ℕ) → 1 ≤ n → n ≤ 1024 → w ≤ top → Good n 0 (empty n l w) own.empty
-start-good n l w h g k = record {
-  fine = empty-fine n l w h g;
-  inv = subst (λ (s : State). Inv n s own.empty) (sym (empty-view n l w)) (starts n w);
-  under = subst Under-state (sym (empty-view n l w)) (start-under n w);
-  room = subst Room-state (sym (empty-view n l w)) (start-room n w);
-  numbers = subst (λ (s : State). Numbered 0 (s .W)) (sym (empty-view n l w)) (start-numbers n w k);
-}
+start-good : (n l w : ℕ) → 1 ≤ n → n ≤ 1024 → w ≤ top → Good (record { rows = n; limit = l }) 0 (empty n l w) own.empty
+start-good n l w h g k =
+    let b : Bounds = record { rows = n; limit = l } in
+    record {
+      fine = empty-fine n l w h g;
+      inv = subst (λ (s : State). Inv b s own.empty) (sym (empty-view n l w)) (starts b w);
+      under = subst Under-state (sym (empty-view n l w)) (start-under b w);
+      room = subst Room-state (sym (empty-view n l w)) (start-room b w);
+      numbers = subst (λ (s : State). Numbered 0 (s .W)) (sym (empty-view n l w)) (start-numbers b w k);
+    }
 
 -- ---- a refused set-up
 
-refused-right : (n w : ℕ) (q : Call) (next : Answer ℕ) → Right n w blank q (Refused unfit) next
+refused-right : (n : Bounds) (w : ℕ) (q : Call) (next : Answer ℕ) → Right n w blank q (Refused unfit) next
 unfolding blank
 refused-right n w (Begin k) next = tt
 refused-right n w (Read k x) next = λ o e. absurd (none-some refl e)
-refused-right n w (Write k x v) next = tt
+refused-right n w (Write k x v) next = λ o e. absurd (none-some refl e)
 refused-right n w (Advance k) next = refl
 refused-right n w (Abandon k) next = tt
 refused-right n w Trim next = tt
@@ -183,7 +186,7 @@ refused-told : (q : Call) → tell q (Refused unfit) blank ≡ blank
 unfolding tell
 refused-told q = refl
 
-refused-all : (n w : ℕ) (d c : List ℕ) (qs : List Call) → RightRun n w blank (unused d c) qs
+refused-all : (n : Bounds) (w : ℕ) (d c : List ℕ) (qs : List Call) → RightRun n w blank (unused d c) qs
 refused-all n w d c [] = tt
 refused-all n w d c (q ∷ qs) =
     let e = refused-call d c q in
@@ -199,19 +202,17 @@ refused-all n w d c (q ∷ qs) =
 
 -- Demand 3: for every set-up, refused or not, and every list of calls, each answer is right by the plain table that is told the calls and
 -- their answers. w is the first W, a number of 32 bits by its type.
-pub demand3 : (d c : List ℕ) (w l : ℕ) → w ≤ 4294967295 → (qs : List Call) → RightRun (setUp d c w l .store .rows) 0 blank (memoryOf (setUp d c w l)) qs
+pub demand3 : (d c : List ℕ) (w l : ℕ) → w ≤ 4294967295 → (qs : List Call) → RightRun (boundsOf d l) 0 blank (memoryOf (setUp d c w l)) qs
 demand3 d c w l h qs = go (accepts (length d) (length c) w l) refl
   where
-    go : (b : Bool) → accepts (length d) (length c) w l ≡ b → RightRun (setUp d c w l .store .rows) 0 blank (memoryOf (setUp d c w l)) qs
+    go : (b : Bool) → accepts (length d) (length c) w l ≡ b → RightRun (boundsOf d l) 0 blank (memoryOf (setUp d c w l)) qs
     go true e =
-        let n : ℕ = length d / 24 in
         let a = accepted (length d) (length c) w l e in
-        subst (λ (x : ℕ). RightRun x 0 blank (memoryOf (setUp d c w l)) qs) (sym (set-up-rows d c w l e))
-        (subst (λ (x : Memory). RightRun n 0 blank x qs) (sym (set-up-whole d c w l e))
-        (subst (λ (x : Table). RightRun n 0 x (whole (first d w l)) qs) erase-empty
-        (all-right qs 0 (first d w l) own.empty (start-good n (limitOf l) (w - 1) (a .some) (a .most) (omega arith)))))
+        subst (λ (x : Memory). RightRun (boundsOf d l) 0 blank x qs) (sym (set-up-whole d c w l e))
+        (subst (λ (x : Table). RightRun (boundsOf d l) 0 x (whole (first d w l)) qs) erase-empty
+        (all-right qs 0 (first d w l) own.empty (start-good (length d / 24) (limitOf l) (w - 1) (a .some) (a .most) (omega arith))))
     go false e =
-        subst (λ (x : Memory). RightRun (setUp d c w l .store .rows) 0 blank x qs) (sym (refused-memory d c w l e)) (refused-all (setUp d c w l .store .rows) 0 d c qs)
+        subst (λ (x : Memory). RightRun (boundsOf d l) 0 blank x qs) (sym (refused-memory d c w l e)) (refused-all (boundsOf d l) 0 d c qs)
 
 -- After a refused set-up every call gets 2 and changes nothing.
 unfit-all : (d c : List ℕ) (qs : List Call) → AllUnfit (unused d c) qs

@@ -23,11 +23,11 @@ use Rattle.spec.specs.Calls.{cells}
 use Rattle.spec.specs.Run.{Call, Begin, Read, Write, Advance, Abandon, Trim, Free}
 use Rattle.spec.specs.Table.{Value, Values, has, Commit, Open, Table, blank, put, reaches, Told, tell}
 use Rattle.spec.specs.Right as r
-use Rattle.spec.specs.Right.{lastNumber, valued, Clash, RightRefusal, ReadRefusal}
+use Rattle.spec.specs.Right.{Bounds, lastNumber, Clash, RightRefusal, ReadRefusal, WriteRefusal}
 use Rattle.spec.proofs.Lists.{in-nil, in-case, in-one, in-left, in-right, append-case, none-some, same-some}
-use Rattle.spec.proofs.Model.{some?}
+use Rattle.spec.proofs.Counts.{has-some, some-has}
 use Rattle.spec.proofs.Plain as own
-use Rattle.spec.proofs.Plain.{Entry, PClient, Plain, none-yet, restaged, opening, rewritten, onBegin, onWrite, onAbandon, onAdvance, onProgress, onStage, plain, lastOf, newer, older, filled}
+use Rattle.spec.proofs.Plain.{Entry, PClient, Plain, none-yet, restaged, opening, rewritten, onBegin, onWrite, onAbandon, onAdvance, onProgress, onStage, plain, lastOf, newer, older}
 
 -- ---- the map
 
@@ -183,8 +183,8 @@ module _ (p : Plain) (k : ℕ) where
     clients = sym (put-client k none-yet none (p .cl) (sym (dead-none none-yet yet))) i;
   }
 
-module _ (rows w : ℕ) (p : Plain) where
-  pub feeds : (q : Call) (a : Answer (Told q)) (free : ℕ) → own.Right rows w p q a free → tell q a (erase p) ≡ erase (plain p q a)
+module _ (bounds : Bounds) (w : ℕ) (p : Plain) where
+  pub feeds : (q : Call) (a : Answer (Told q)) (free : ℕ) → own.Right bounds w p q a free → tell q a (erase p) ≡ erase (plain p q a)
   unfolding tell plain onBegin onWrite onAdvance onProgress onAbandon erase
   feeds (Begin k) (Answered b) free h = λ i. record {
     values = p .table;
@@ -216,23 +216,6 @@ module _ (rows w : ℕ) (p : Plain) where
   feeds Free (Refused n) free h = refl
 
 -- ---- what is right by the one is right by the other
-
-has-some : (o : Option Value) → has o ≡ true → IsSome o
-has-some none e = absurd (false≢true e)
-has-some (some v) e = tt
-
-some-has : (o : Option Value) → IsSome o → has o ≡ true
-some-has none h = absurd h
-some-has (some v) h = refl
-
-filled-valued : (n : ℕ) (t : Values) → filled n t ≡ valued n t
-unfolding filled valued some?
-filled-valued zero t = refl
-filled-valued (suc n) t = go (t n) (filled-valued n t)
-  where
-    go : (o : Option Value) → filled n t ≡ valued n t → ite (some? o) (suc (filled n t)) (filled n t) ≡ (if has o then 1 else 0) + valued n t
-    go none e = omega (arith, e)
-    go (some v) e = omega (arith, e)
 
 module _ (p : Plain) (k : ℕ) where
   clash : (e : Commit) → Clash (erase p) (openOf (p .cl k)) e → (d : Entry) × (e ≡ commitOf d) × own.Clash p k d
@@ -277,8 +260,8 @@ module _ (p : Plain) (k : ℕ) where
     number = h .2 ∙ sym (ap lastNumber (take-aged (p .cl k .since) (p .book)) ∙ last-aged (older (p .cl k .since) (p .book)));
   }
 
-module _ (rows w W : ℕ) (rises : w ≤ W) (p : Plain) where
-  pub right : (q : Call) (a : Answer (Told q)) (free : ℕ) → own.Right rows W p q a free → r.Right rows w (erase p) q a (Answered free)
+module _ (bounds : Bounds) (w W : ℕ) (rises : w ≤ W) (p : Plain) where
+  pub right : (q : Call) (a : Answer (Told q)) (free : ℕ) → own.Right bounds W p q a free → r.Right bounds w (erase p) q a (Answered free)
   unfolding erase
   right (Begin k) (Answered b) free h = (dead-none (p .cl k) (h .0), (h .1 ∙ sym (last-aged (p .book)), omega (arith, h .2)))
   right (Begin k) (Refused n) free h = six p k n h
@@ -286,12 +269,13 @@ module _ (rows w W : ℕ) (rises : w ≤ W) (p : Plain) where
   right (Read k x) (Refused n) free h =
       λ o e. let y = some-live (p .cl k) o e in subst (λ (z : Open). ReadRefusal x (z .stage) n) (y .1) (h (y .0))
   right (Write k x v) (Answered n) free h = (openOf (p .cl k), live-some (p .cl k) (h .0), h .1)
-  right (Write k x v) (Refused n) free h = six p k n h
+  right (Write k x v) (Refused n) free h =
+      λ o e. let y = some-live (p .cl k) o e in subst (λ (z : Open). WriteRefusal (bounds .limit) (z .stage) (z .writes) x v (Answered free) n) (y .1) (h (y .0))
   right (Advance k) (Answered a) free h = (openOf (p .cl k), live-some (p .cl k) (h .0), progress p k a (h .1))
   right (Advance k) (Refused n) free h = dead-none (p .cl k) h
   right (Abandon k) (Answered n) free h = (openOf (p .cl k), live-some (p .cl k) (h .0), h .1)
   right (Abandon k) (Refused n) free h = six p k n h
   right Trim (Answered n) free h =
-      λ e. ap (λ (z : ℕ). Answered z) (h (λ k. none-dead (p .cl k) (e k)) ∙ rw (filled-valued cells (p .table)))
+      λ e. ap (λ (z : ℕ). Answered z) (h (λ k. none-dead (p .cl k) (e k)))
   right Trim (Refused n) free h = tt
   right Free a free h = tt

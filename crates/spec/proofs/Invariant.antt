@@ -18,6 +18,7 @@ use Rattle.spec.proofs.Plain.{Entry, PClient, Plain, Shares, newer, old
 use Rattle.spec.specs.Table.{Value, orElse}
 use Rattle.sets.specs.Set.{clients}
 use Rattle.spec.specs.Calls.{cells}
+use Rattle.spec.specs.Right.{Bounds}
 
 -- Of each client, what the rows and the book are held to. `late` is 0 below stage 12.
 pub record Seen : Type 0 where
@@ -123,8 +124,8 @@ RQ s = Queue (rph s) (λ b. s .cl b .request) (λ b. s .cl b .rwait) (s .R) (Rel
 abbrev pub CQ : State → Type 0
 CQ s = Queue (cph s) (λ b. s .cl b .commit) (λ b. s .cl b .cwait) (s .C) Always
 
-pub record Inv (rows : ℕ) (s : State) (p : Plain) : Type 0 where
-  pub same-rows : s .rows ≡ rows
+pub record Inv (bounds : Bounds) (s : State) (p : Plain) : Type 0 where
+  pub same-bounds : s .bounds ≡ bounds
   pub counted : p .count ≡ s .C
   pub last-le : s .last ≤ s .C
   pub one : Each s p

@@ -6,6 +6,7 @@ pub mod Wellformed
 pub mod Refusals
 pub mod Bridge
 pub mod Lists
+pub mod Counts
 pub mod Tickets
 pub mod Model
 pub mod Plain

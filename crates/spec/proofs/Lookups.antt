@@ -13,11 +13,13 @@ use native.Mathlib.Omega.{arith}
 use lib.ListN.{length}
 use Rattle.spec.proofs.Lists.{in-nil, in-case, ite-elim, none-some, option-case, best-none, Best, best-some, some-on}
 use Rattle.spec.proofs.Model.{DRow, CRow, find, numOf, sift, some?, readKey, checkKey, largest, smallest, valueOf}
-use Rattle.spec.proofs.Plain.{Entry, newer, Shares, filled}
+use Rattle.spec.proofs.Plain.{Entry, newer, Shares}
 use Rattle.spec.proofs.Invariant.{Seen, Uniq, upTo, RowOf, Tab}
 use Rattle.spec.proofs.Book.{is-some, book-max, same-entry, upTo-whole, Top, upTo-some, upTo-none}
 use Rattle.spec.proofs.Tables.{trimDat, trimComm, tab-trimmed, was}
+use Rattle.spec.proofs.Counts.{some-has, none-has, valued-none, valued-more}
 use Rattle.spec.specs.Table.{Value}
+use Rattle.spec.specs.Right.{valued}
 use Rattle.spec.specs.Calls.{cells}
 
 sift-some : {P : ℕ → Type 0} (d : (n : ℕ) → Dec (P n)) (o : Option ℕ) (n : ℕ) → sift d o ≡ some n → (o ≡ some n) × P n
@@ -140,40 +142,24 @@ hide-other : (y : ℕ) (f : ℕ → Option Value) (x : ℕ) → x ≢ y → hide
 unfolding hide
 hide-other y f x n = if-neg (ℕ-discrete x y) n _ _
 
-filled-none : (n : ℕ) (f : ℕ → Option Value) → ((x : ℕ) → x < n → IsSome (f x) → ⊥) → filled n f ≡ 0
-unfolding filled
-filled-none zero f h = refl
-filled-none (suc n) f h = if-neg (some? (f n)) (h n (omega arith)) _ _ ∙ filled-none n f (λ x k. h x (omega arith))
-
-filled-same : (n : ℕ) (f g : ℕ → Option Value) → ((x : ℕ) → x < n → f x ≡ g x) → filled n f ≡ filled n g
-unfolding filled
-filled-same zero f g h = refl
-filled-same (suc n) f g h = rw (h n (omega arith), filled-same n f g (λ x k. h x (omega arith)))
-
-filled-hide : (n : ℕ) (f : ℕ → Option Value) (y : ℕ) → y < n → IsSome (f y) → filled n f ≡ suc (filled n (hide y f))
-unfolding filled
-filled-hide zero f y h k = absurd (omega arith)
-filled-hide (suc n) f y h k =
-    by-cases (ℕ-discrete y n)
-    (λ e. if-pos (some? (f n)) (subst (λ (x : ℕ). IsSome (f x)) e k) _ _
-    ∙ ap suc (filled-same n f (hide y f) (λ x q. sym (hide-other y f x (λ z. omega arith)))
-    ∙ sym (if-neg (some? (hide y f n)) (λ z. rw (ap (hide y f) (sym e) ∙ hide-same y f) at z) _ _)))
-    (λ m. rw (hide-other y f n (λ z. m (sym z)), filled-hide n f y (omega arith) k) (sym (apply-ite suc (some? (f n)) _ _)))
-
 abbrev Spread : List DRow → Type 0
 Spread [] = Unit {0}
 Spread (r ∷ l) = ((r′ : DRow) → In r′ l → r′ .cell ≡ r .cell → ⊥) × Spread l
 
 count-cells : (n : ℕ) (l : List DRow) (f : ℕ → Option Value) → ((r : DRow) → In r l → r .cell < n) → Spread l → ((r : DRow) → In r l → IsSome (f (r .cell)))
-    → ((x : ℕ) → IsSome (f x) → (r : DRow) × In r l × (r .cell ≡ x)) → length l ≡ filled n f
-count-cells n [] f below spread has row = sym (filled-none n f (λ x k h. in-nil (row x h .1)))
+    → ((x : ℕ) → IsSome (f x) → (r : DRow) × In r l × (r .cell ≡ x)) → length l ≡ valued n f
+count-cells n [] f below spread has row = sym (valued-none n f (λ x. none-has (f x) (λ h. in-nil (row x h .1))))
 count-cells n (r ∷ l) f below spread has row =
     ap suc (count-cells n l (hide (r .cell) f) (λ q i. below q (there i)) (spread .1)
     (λ q i. rw (hide-other (r .cell) f (q .cell) (spread .0 q i)) (has q (there i)))
     (λ x h. let m : x ≢ r .cell = λ e. rw (ap (hide (r .cell) f) e ∙ hide-same (r .cell) f) at h in
     let q = row x (rw (hide-other (r .cell) f x m) at h) in
     in-case (q .1) (λ e. absurd (m (sym (q .2) ∙ ap (λ (z : DRow). z .cell) e))) (λ j. (q .0, j, q .2))))
-    ∙ sym (filled-hide n f (r .cell) (below r (here refl)) (has r (here refl)))
+    ∙ omega (
+      arith,
+      valued-more n f (hide (r .cell) f) (r .cell) (below r (here refl)) (some-has (f (r .cell)) (has r (here refl))) (rw (hide-same (r .cell) f))
+          (λ x m. rw (hide-other (r .cell) f x m)),
+    )
 
 -- After a trim at the last commit with nothing open each cell with a value has one row.
 module _ {dat : List DRow} {comm : List CRow} {last W : ℕ} {table : ℕ → Option Value} {book : List Entry} {v : ℕ → Seen}
@@ -205,7 +191,7 @@ module _ {dat : List DRow} {comm : List CRow} {last W : ℕ} {table : ℕ → Op
   spread [] u h = tt
   spread (r ∷ l) u h = (λ q i e. u .0 q i (h q r (there i) (here refl) e) e, spread l (u .1) (λ x y i j. h x y (there i) (there j)))
 
-  pub trim-count : length (trimDat dat comm last) ≡ filled cells table
+  pub trim-count : length (trimDat dat comm last) ≡ valued cells table
   trim-count =
       count-cells cells (trimDat dat comm last) table (after .row-cell) (spread _ (after .uniq) alone)
       (λ r i. let j = was t last (omega arith) low-snap r i .0 in let n = committed-row r j in let e = t .sound r (n .0) j (n .1) in

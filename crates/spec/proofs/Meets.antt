@@ -9,6 +9,7 @@ use native.Mathlib.Decide.{ℕ-discrete, decLe}
 use native.Mathlib.Omega.{arith}
 use Rattle.spec.proofs.Lists.{ite-elim, option-case}
 use Rattle.spec.proofs.Tickets.{look, count}
+use Rattle.spec.specs.Right.{Bounds}
 use Rattle.spec.proofs.Model.{newcomer, Client, closed, put, same, clearC, clearBoth, State, Out, rph, cph, smallest, checkKey, atStage, withRequest, withCommit, begun, overwritten, added, trimmed, takeR, takeC, listR, listC, lookR, lookC, checked, committed, fresh}
 use Rattle.spec.proofs.Moves.{Tame, tame-same, tame-C, tame-both, put-at, put-off}
 use Rattle.spec.proofs.Took.{Took, no-begin, no-read, no-write, no-advance, no-abandon, begins, reads, replaces, adds, at0, ends0, at1, at2, at3, at4, at5, at6, at7, at8, at9, at10, at11, at12, at13, abandons, trims, frees}
@@ -108,8 +109,8 @@ module _ (s : State) (u : Under-state s) where
       moved a h _ same (tame-same a) (s .R) (s .C) (suc (s .W)) (omega (arith, early-one 1 (newcomer s) (omega arith) (omega arith)))
       (omega (arith, early-one 7 (newcomer s) (omega arith) (omega arith)))
   keeps (reads a x hx op e) = u
-  keeps (replaces a x v hx op e k) = u
-  keeps (adds a x v hx op e n) = u
+  keeps (replaces a x v w op k) = u
+  keeps (adds a x v w op n) = u
   keeps (at0 a h op e k) = later a h (atStage (s .cl a) 1) same (tame-same a) refl (omega arith)
   keeps (ends0 a h op e k) = gone a h
   keeps (at1 a h op e) =
@@ -152,6 +153,6 @@ unfolding sum closed
 none-early t zero = refl
 none-early t (suc n) = omega (arith, early-shut t closed refl, none-early t n)
 
-pub start-under : (n w : ℕ) → Under-state (fresh n w)
+pub start-under : (b : Bounds) (w : ℕ) → Under-state (fresh b w)
 unfolding fresh
-start-under n w = record { r = omega (arith, none-early 1 clients); c = omega (arith, none-early 7 clients) }
+start-under b w = record { r = omega (arith, none-early 1 clients); c = omega (arith, none-early 7 clients) }

@@ -16,7 +16,8 @@ use Rattle.spec.specs.declared.Begun.{Begun}
 use Rattle.spec.specs.declared.Progress.{Progress}
 use Rattle.spec.specs.declared.Progress.the-variants.{Stage, Waiting, Conflict}
 use Rattle.spec.specs.Answers.{Answer, Answered}
-use Rattle.spec.specs.Table.{Value, orElse}
+use Rattle.spec.specs.Table.{Value, Values, orElse}
+use Rattle.spec.specs.Right.{Bounds}
 use Rattle.spec.proofs.Lists.{On, on?, any?, drop?, first, best}
 use Rattle.spec.proofs.Tickets.{listing, clear, count}
 
@@ -73,7 +74,7 @@ unfoldable pub closed : Client
 closed = record { number = 0; stage = 0; snapshot = 0; request = 0; commit = 0; rwait = λ _. false; cwait = λ _. false }
 
 pub record State : Type 0 where
-  pub rows : ℕ
+  pub bounds : Bounds
   pub W : ℕ
   pub R : ℕ
   pub C : ℕ
@@ -108,6 +109,10 @@ rph s b = rphase (s .cl b .stage)
 
 abbrev pub cph : State → ℕ → ℕ
 cph s b = cphase (s .cl b .stage)
+
+-- what client a's transaction wrote, by the rows
+abbrev pub written : State → ℕ → Values
+written s a x = find (s .cl a .number) x (s .dat)
 
 -- ---- searches
 
@@ -180,10 +185,10 @@ out s x = record { state = s; answer = x }
 
 -- a state with the clients or the data rows replaced
 abbrev pub withClients : State → (ℕ → Client) → State
-withClients s cl = record { rows = s .rows; W = s .W; R = s .R; C = s .C; last = s .last; dat = s .dat; comm = s .comm; cl = cl }
+withClients s cl = record { bounds = s .bounds; W = s .W; R = s .R; C = s .C; last = s .last; dat = s .dat; comm = s .comm; cl = cl }
 
 abbrev pub withData : State → List DRow → (ℕ → Client) → State
-withData s d cl = record { rows = s .rows; W = s .W; R = s .R; C = s .C; last = s .last; dat = d; comm = s .comm; cl = cl }
+withData s d cl = record { bounds = s .bounds; W = s .W; R = s .R; C = s .C; last = s .last; dat = d; comm = s .comm; cl = cl }
 
 abbrev pub atStage : Client → ℕ → Client
 atStage c k = record { number = c .number; stage = k; snapshot = c .snapshot; request = c .request; commit = c .commit; rwait = c .rwait; cwait = c .cwait }
@@ -210,11 +215,11 @@ newcomer s = record { number = suc (s .W); stage = 0; snapshot = s .last; reques
 
 unfoldable pub begun : State → ℕ → Out (Answer Begun)
 begun s a = out
-    record { rows = s .rows; W = suc (s .W); R = s .R; C = s .C; last = s .last; dat = s .dat; comm = s .comm; cl = put a (newcomer s) same (s .cl) }
+    record { bounds = s .bounds; W = suc (s .W); R = s .R; C = s .C; last = s .last; dat = s .dat; comm = s .comm; cl = put a (newcomer s) same (s .cl) }
     (Answered (record { number = suc (s .W); snapshot = s .last }))
 
 unfoldable pub free : State → ℕ
-free s = s .rows - length (s .dat)
+free s = s .bounds .rows - length (s .dat)
 
 -- a new state with its free figure
 abbrev pub figured : State → Out (Answer ℕ)
@@ -243,12 +248,12 @@ step-to s a k = out (move s a (atStage (s .cl a) k)) (Answered (Stage k))
 
 unfoldable pub takeR : State → ℕ → Out (Answer Progress)
 takeR s a = out
-    record { rows = s .rows; W = s .W; R = suc (s .R); C = s .C; last = s .last; dat = s .dat; comm = s .comm; cl = put a (withRequest (s .cl a) 2 (suc (s .R))) same (s .cl) }
+    record { bounds = s .bounds; W = s .W; R = suc (s .R); C = s .C; last = s .last; dat = s .dat; comm = s .comm; cl = put a (withRequest (s .cl a) 2 (suc (s .R))) same (s .cl) }
     (Answered (Stage 2))
 
 unfoldable pub takeC : State → ℕ → Out (Answer Progress)
 takeC s a = out
-    record { rows = s .rows; W = s .W; R = s .R; C = suc (s .C); last = s .last; dat = s .dat; comm = s .comm; cl = put a (withCommit (s .cl a) 8 (suc (s .C))) same (s .cl) }
+    record { bounds = s .bounds; W = s .W; R = s .R; C = suc (s .C); last = s .last; dat = s .dat; comm = s .comm; cl = put a (withCommit (s .cl a) 8 (suc (s .C))) same (s .cl) }
     (Answered (Stage 8))
 
 unfoldable pub listR : State → ℕ → Out (Answer Progress)
@@ -274,7 +279,7 @@ checked s a (some w) = out (removed s a) (Answered (Conflict (w .0)))
 unfoldable pub committed : State → ℕ → Out (Answer Progress)
 committed s a = out
     record {
-      rows = s .rows;
+      bounds = s .bounds;
       W = s .W;
       R = s .R;
       C = s .C;
@@ -289,9 +294,9 @@ unfoldable pub trimmed : State → Out (Answer ℕ)
 trimmed s =
     let d : List DRow = drop? (passed? (s .dat) (s .comm) (low s)) (s .dat) in
     out
-    record { rows = s .rows; W = s .W; R = s .R; C = s .C; last = s .last; dat = d; comm = drop? (bare? d) (s .comm); cl = s .cl }
+    record { bounds = s .bounds; W = s .W; R = s .R; C = s .C; last = s .last; dat = d; comm = drop? (bare? d) (s .comm); cl = s .cl }
     (Answered (length (s .dat) - length d))
 
 -- a state after set-up
-unfoldable pub fresh : ℕ → ℕ → State
-fresh rows w = record { rows = rows; W = w; R = 0; C = 0; last = 0; dat = []; comm = []; cl = λ _. closed }
+unfoldable pub fresh : Bounds → ℕ → State
+fresh b w = record { bounds = b; W = w; R = 0; C = 0; last = 0; dat = []; comm = []; cl = λ _. closed }

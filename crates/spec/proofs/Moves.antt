@@ -9,6 +9,7 @@ use mathlib.Core.Option.{IsSome}
 use native.Mathlib.Decide.{ℕ-discrete}
 use native.Mathlib.Omega.{arith}
 use Rattle.spec.proofs.Tickets.{Others, clear-other}
+use Rattle.spec.specs.Right.{Bounds}
 use Rattle.spec.proofs.Model.{DRow, Client, State, find, rphase, cphase, put, same, clearC, clearBoth}
 use Rattle.spec.proofs.Plain.{restaged, Entry, PClient, Plain, NoClash, setP}
 use Rattle.spec.proofs.Invariant.{Seen, view, lateness, One, Rel, Always, RQ, CQ, Inv}
@@ -105,9 +106,9 @@ abbrev pub rewound : Plain → ℕ → (ℕ → PClient) → Plain
 rewound p n cl = record { table = p .table; count = n; book = p .book; cl = cl }
 
 abbrev pub stepped : State → ℕ → ℕ → (ℕ → Client) → State
-stepped s R C cl = record { rows = s .rows; W = s .W; R = R; C = C; last = s .last; dat = s .dat; comm = s .comm; cl = cl }
+stepped s R C cl = record { bounds = s .bounds; W = s .W; R = R; C = C; last = s .last; dat = s .dat; comm = s .comm; cl = cl }
 
-module _ {rows : ℕ} {s : State} {p : Plain} (inv : Inv rows s p) (a : ℕ) (c : Client) (f : Client → Client) (tame : Tame a f) (R C m n : ℕ) (counted : m ≡ C) (pcl : ℕ → PClient)
+module _ {bounds : Bounds} {s : State} {p : Plain} (inv : Inv bounds s p) (a : ℕ) (c : Client) (f : Client → Client) (tame : Tame a f) (R C m n : ℕ) (counted : m ≡ C) (pcl : ℕ → PClient)
     (at : pcl a ≡ restaged (p .cl a) (c .stage) n) (else : (b : ℕ) → b ≢ a → pcl b ≡ p .cl b)
     (number : c .number ≡ s .cl a .number) (snapshot : c .snapshot ≡ s .cl a .snapshot) (late : lateness (c .stage) ≡ lateness (s .cl a .stage))
     (isopen : 1 ≤ s .cl a .number) where
@@ -126,9 +127,9 @@ module _ {rows : ℕ} {s : State} {p : Plain} (inv : Inv rows s p) (a : ℕ) (c 
       → (8 ≤ c .stage → c .stage ≤ 11 → s .last < c .commit)
       → (12 ≤ c .stage → (e : Entry) × In e (p .book) × (e .number ≡ c .commit))
       → (6 ≤ c .stage → c .stage ≤ 11 → NoClash p a)
-      → Inv rows (stepped s R C (put a c f (s .cl))) (rewound p m pcl)
+      → Inv bounds (stepped s R C (put a c f (s .cl))) (rewound p m pcl)
   moves ctr rq cq numbered ahead in-book fresh = record {
-    same-rows = inv .same-rows;
+    same-bounds = inv .same-bounds;
     counted = counted;
     last-le = omega (arith, inv .last-le);
     one = each a (λ b. One (s .last) (p .book) b (put a c f (s .cl) b .number) (put a c f (s .cl) b .stage) (put a c f (s .cl) b .commit) (pcl b))

@@ -16,8 +16,7 @@ use Rattle.spec.specs.Answers.{Answer, Answered, Refused, notOpen}
 use Rattle.spec.specs.Calls.{cells}
 use Rattle.spec.specs.Run.{Call, Begin, Read, Write, Advance, Abandon, Trim, Free}
 use Rattle.spec.specs.Table.{Value, unwritten, put, orElse, over, Told}
-use Rattle.spec.specs.Right.{ReadRefusal}
-use Rattle.spec.proofs.Model.{some?}
+use Rattle.spec.specs.Right.{Bounds, valued, ReadRefusal, WriteAnswer, WriteRefusal}
 
 -- a commit: its number and what it wrote
 pub record Entry : Type 0 where
@@ -144,11 +143,6 @@ Clash p a e = In e (newer (p .cl a .since) (p .book)) × Shares (e .puts) (p .cl
 abbrev pub NoClash : Plain → ℕ → Type 0
 NoClash p a = (e : Entry) → In e (newer (p .cl a .since) (p .book)) → Shares (e .puts) (p .cl a .writes) → ⊥
 
--- the cells below n with a value in a table
-unfoldable pub filled : ℕ → (ℕ → Option Value) → ℕ
-filled zero t = 0
-filled (suc n) t = ite (some? (t n)) (suc (filled n t)) (filled n t)
-
 -- a client past its check is not told that nothing is open
 abbrev pub Six : Plain → ℕ → ℕ → Type 0
 Six p a r = r ≡ notOpen → p .cl a .live ≡ true → 6 ≤ p .cl a .stage → ⊥
@@ -162,9 +156,14 @@ abbrev pub RightRead : Plain → ℕ → ℕ → Answer (Option Value) → Type 
 RightRead p a x (Answered v) = (p .cl a .live ≡ true) × (v ≡ orElse (p .cl a .writes x) (p .cl a .copy x)) × (p .cl a .stage ≤ 11) × (x < cells)
 RightRead p a x (Refused r) = p .cl a .live ≡ true → ReadRefusal x (p .cl a .stage) r
 
-abbrev pub RightFigure : ℕ → Plain → ℕ → Answer ℕ → Type 0
-RightFigure g p a (Answered n) = (p .cl a .live ≡ true) × (p .cl a .stage < g)
-RightFigure g p a (Refused r) = Six p a r
+-- free is the free figure after the call
+abbrev pub RightWrite : ℕ → Plain → ℕ → ℕ → Value → Answer ℕ → ℕ → Type 0
+RightWrite limit p a x v (Answered n) free = (p .cl a .live ≡ true) × WriteAnswer limit (p .cl a .stage) (p .cl a .writes) x v
+RightWrite limit p a x v (Refused r) free = p .cl a .live ≡ true → WriteRefusal limit (p .cl a .stage) (p .cl a .writes) x v (Answered free) r
+
+abbrev pub RightAbandon : Plain → ℕ → Answer ℕ → Type 0
+RightAbandon p a (Answered n) = (p .cl a .live ≡ true) × (p .cl a .stage < 12)
+RightAbandon p a (Refused r) = Six p a r
 
 abbrev pub RightProgress : Plain → ℕ → Progress → Type 0
 RightProgress p a (Stage k) = (k ≡ suc (p .cl a .stage)) × (k ≡ 1 → Wrote (p .cl a)) × (k ≡ 6 → NoClash p a) × (k ≡ 12 → NoClash p a × (lastOf (p .book) < p .cl a .commit))
@@ -178,16 +177,15 @@ abbrev pub RightAdvance : Plain → ℕ → Answer Progress → Type 0
 RightAdvance p a (Answered g) = (p .cl a .live ≡ true) × RightProgress p a g
 RightAdvance p a (Refused r) = p .cl a .live ≡ false
 
--- free is the free figure after the call
 abbrev pub RightTrim : ℕ → Plain → Answer ℕ → ℕ → Type 0
-RightTrim rows p (Answered n) free = ((a : ℕ) → p .cl a .live ≡ false) → free ≡ rows - filled cells (p .table)
+RightTrim rows p (Answered n) free = ((a : ℕ) → p .cl a .live ≡ false) → free ≡ rows - valued cells (p .table)
 RightTrim rows p (Refused r) free = Unit {0}
 
-abbrev pub Right : ℕ → ℕ → Plain → (q : Call) → Answer (Told q) → ℕ → Type 0
-Right rows w p (Begin a) r free = RightBegin w p a r
-Right rows w p (Read a x) r free = RightRead p a x r
-Right rows w p (Write a x v) r free = RightFigure 1 p a r
-Right rows w p (Advance a) r free = RightAdvance p a r
-Right rows w p (Abandon a) r free = RightFigure 12 p a r
-Right rows w p Trim r free = RightTrim rows p r free
-Right rows w p Free r free = Unit {0}
+abbrev pub Right : Bounds → ℕ → Plain → (q : Call) → Answer (Told q) → ℕ → Type 0
+Right b w p (Begin a) r free = RightBegin w p a r
+Right b w p (Read a x) r free = RightRead p a x r
+Right b w p (Write a x v) r free = RightWrite (b .limit) p a x v r free
+Right b w p (Advance a) r free = RightAdvance p a r
+Right b w p (Abandon a) r free = RightAbandon p a r
+Right b w p Trim r free = RightTrim (b .rows) p r free
+Right b w p Free r free = Unit {0}

@@ -11,6 +11,7 @@ use native.Mathlib.Omega.{arith}
 use lib.ListN.{length}
 use Rattle.spec.proofs.Lists.{in-nil, in-case, in-one, in-left, append-case, any?, drop?, drop-in, in-drop, length-drop?, ite-elim, option-case, none-some, first-none}
 use Rattle.spec.proofs.Tickets.{look, count}
+use Rattle.spec.specs.Right.{Bounds}
 use Rattle.spec.proofs.Model.{DRow, CRow, Client, closed, put, same, clearC, clearBoth, State, Out, rph, cph, smallest, checkKey, atStage, withRequest, withCommit, begun, overwritten, added, trimmed, without, takeR, takeC, listR, listC, lookR, lookC, checked, committed, fresh, numOf, numberAt, replace, valueAt, some?, Passed, passed?, bare?, low}
 use Rattle.spec.proofs.Plain.{Plain}
 use Rattle.spec.proofs.Invariant.{Inv, lateness}
@@ -90,7 +91,7 @@ pub record Room (dat : List DRow) (comm : List CRow) (cl : ℕ → Client) : Typ
 abbrev pub Room-state : State → Type 0
 Room-state s = Room (s .dat) (s .comm) (s .cl)
 
-module _ {rows : ℕ} {s : State} {p : Plain} (inv : Inv rows s p) (u : Room-state s) where
+module _ {bounds : Bounds} {s : State} {p : Plain} (inv : Inv bounds s p) (u : Room-state s) where
   -- Client a becomes d, no row changes.
   moved : (a : ℕ) (d : Client) (f : Client → Client) → Tame a f → (1 ≤ d .number → 1 ≤ d .stage → d .stage ≤ 11 → HasRow (d .number) (s .dat)) → Room (s .dat) (s .comm) (put a d f (s .cl))
   moved a d f m h = record {
@@ -157,12 +158,12 @@ module _ {rows : ℕ} {s : State} {p : Plain} (inv : Inv rows s p) (u : Room-sta
   stays (no-abandon a r n) = u
   stays (begins a h was k) = moved a _ same (tame-same a) (λ x y. absurd (omega arith))
   stays (reads a x hx op e) = u
-  stays (replaces a x v hx op e k) = record {
+  stays (replaces a x v w op k) = record {
     distinct = u .distinct;
     backed = λ c i. let r = u .backed c i in replace-row (s .cl a .number) x v (c .tag) (s .dat) (r .0) (r .1) (r .2);
     own = λ b y z w. let r = u .own b y z w in replace-row (s .cl a .number) x v (s .cl b .number) (s .dat) (r .0) (r .1) (r .2);
   }
-  stays (adds a x v hx op e n) = record {
+  stays (adds a x v w op n) = record {
     distinct = u .distinct;
     backed = λ c i. let r = u .backed c i in (r .0, in-left _ (r .1), r .2);
     own = λ b y z w. let r = u .own b y z w in (r .0, in-left _ (r .1), r .2);
@@ -200,6 +201,6 @@ module _ {rows : ℕ} {s : State} {p : Plain} (inv : Inv rows s p) (u : Room-sta
       (λ d i. in-case i (λ q. subst (λ (x : CRow). HasRow (x .tag) (s .dat)) (sym q) (u .own a o (omega arith) (omega arith))) (u .backed d)) in
       omega arith
 
-pub start-room : (n w : ℕ) → Room-state (fresh n w)
+pub start-room : (b : Bounds) (w : ℕ) → Room-state (fresh b w)
 unfolding fresh closed
-start-room n w = record { distinct = tt; backed = λ c i. absurd (in-nil i); own = λ a x. absurd (omega arith) }
+start-room b w = record { distinct = tt; backed = λ c i. absurd (in-nil i); own = λ a x. absurd (omega arith) }

@@ -6,7 +6,7 @@ use Prim.Native.Nat.{ℕ, _+_, _-_, _<_}
 use mathlib.Core.Path.{_≡_, refl, sym, ap, _∙_, subst}
 use mathlib.Core.Logic.{_≢_, ite, if-pos, if-neg, by-cases, Dec·and}
 use mathlib.Core.Bool.{Bool, true, false, not, false≢true, true≢false}
-use mathlib.Core.List.{List, [], _∷_, _++_, map, append-assoc, List·Memᴰ·head as here, List·Memᴰ·tail as there}
+use mathlib.Core.List.{List, [], _∷_, _++_, map, append-assoc, List·Memᴰ as In, List·Memᴰ·head as here, List·Memᴰ·tail as there}
 use mathlib.Core.Option.{Option, none, some}
 use native.Mathlib.Decide.{ℕ-discrete, decLt, decLe}
 use native.Mathlib.Omega.{arith}
@@ -26,8 +26,11 @@ use Rattle.search.specs.Numbers as n
 use Rattle.search.specs.Numbers.{lesser, above, upTo}
 use Rattle.search.specs.Look as k
 use Rattle.search.specs.Look.{commitOf, isOwn, versionOf, newer, seenAt, newest}
-use Rattle.search.specs.Share.{any, wrote, shares, clash, conflict}
-use Rattle.spec.specs.Table.{Value}
+use Rattle.search.specs.Share.{any, wrote, cellsOf, shares, clash, conflict}
+use Rattle.spec.specs.Calls.{cells}
+use Rattle.spec.specs.Table.{Value, Values, has}
+use Rattle.spec.specs.Right.{valued}
+use Rattle.spec.proofs.Counts.{valued-none, valued-same, valued-more}
 use Rattle.spec.proofs.Lists as l
 use Rattle.spec.proofs.Lists.{in-nil, in-case, any?, drop?, first, orNext}
 use Rattle.spec.proofs.Model as m
@@ -174,6 +177,69 @@ module _ (t x : ℕ) where
           → says (some? (orNext (valueAt t x (dataRowOf r)) (first (valueAt t x) (map dataRowOf rs)))) ≡ (if b then true else any (isOwn t x) rs)
       go true h ih = rw (own-yes r h)
       go false h ih = rw (own-no r h) ih
+
+-- ---- how many cells a transaction wrote
+
+has-says : (o : Option Value) → has o ≡ says (some? o)
+unfolding some?
+has-says none = refl
+has-says (some v) = refl
+
+has-view : (t x : ℕ) (ds : List Row) → has (find t x (map dataRowOf ds)) ≡ wrote ds t x
+has-view t x ds = has-says (find t x (map dataRowOf ds)) ∙ wrote-view t x ds
+
+-- a row in front of others: what is found for a cell with it and without it
+module _ (t : ℕ) (r : Row) (rs : List Row) where
+  abbrev with-it : Values
+  with-it x = find t x (map dataRowOf (r ∷ rs))
+
+  abbrev without-it : Values
+  without-it x = find t x (map dataRowOf rs)
+
+  on : (x : ℕ) → isOwn t x r ≡ true → has (with-it x) ≡ true
+  unfolding wrote any
+  on x e = has-view t x (r ∷ rs) ∙ rw e
+
+  off : (x : ℕ) → isOwn t x r ≡ false → has (with-it x) ≡ has (without-it x)
+  unfolding wrote any
+  off x e = has-view t x (r ∷ rs) ∙ rw e (sym (has-view t x rs))
+
+  own-cell : hasTag t r ≡ true → isOwn t (cellOf r) r ≡ true
+  unfolding isOwn hasTag
+  own-cell e = rw e (eq-eqb (cellOf r) (cellOf r) refl)
+
+  other-tag : hasTag t r ≡ false → (x : ℕ) → isOwn t x r ≡ false
+  unfolding isOwn hasTag
+  other-tag e x = rw e
+
+  other-cell : (x : ℕ) → x ≢ cellOf r → isOwn t x r ≡ false
+  unfolding isOwn
+  other-cell x n = go (eqb (tagOf r) t)
+    where
+      go : (b : Bool) → (if b then eqb (cellOf r) x else false) ≡ false
+      go true = ne-eqb (cellOf r) x (λ e. n (sym e))
+      go false = refl
+
+  -- one cell more, if it is the transaction's and no row behind it is for its cell
+  counted : (a : Bool) → hasTag t r ≡ a → (b : Bool) → wrote rs t (cellOf r) ≡ b → cellOf r < cells
+      → (if a then (if b then 0 else 1) else 0) + valued cells without-it ≡ valued cells with-it
+  counted false p b q h = omega (arith, valued-same cells with-it without-it (λ x _. off x (other-tag p x)))
+  counted true p true q h =
+      omega (
+        arith,
+        valued-same cells with-it without-it (λ x _.
+            by-cases (ℕ-discrete x (cellOf r))
+            (λ e. rw e (on (cellOf r) (own-cell p) ∙ sym (has-view t (cellOf r) rs ∙ q)))
+            (λ n. off x (other-cell x n))),
+      )
+  counted true p false q h =
+      omega (arith, valued-more cells with-it without-it (cellOf r) h (on (cellOf r) (own-cell p)) (has-view t (cellOf r) rs ∙ q) (λ x n. off x (other-cell x n)))
+
+pub cells-view : (t : ℕ) (ds : List Row) → ((r : DRow) → In r (map dataRowOf ds) → r .cell < cells) → cellsOf t ds ≡ valued cells (λ x. find t x (map dataRowOf ds))
+unfolding cellsOf wrote any dataRowOf
+cells-view t [] inside = sym (valued-none cells (λ x. find t x []) (λ x. has-view t x []))
+cells-view t (r ∷ rs) inside =
+    rw (cells-view t rs (λ q i. inside q (there i))) (counted t r rs (hasTag t r) refl (wrote rs t (cellOf r)) refl (inside (dataRowOf r) (here refl)))
 
 -- ---- the newest version that a read finds
 

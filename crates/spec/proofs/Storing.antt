@@ -1,12 +1,14 @@
 -- Write on an image is, by the view, what Took.antt says of it: the first row of the transaction and the cell has its value replaced, or a row
--- goes in behind the last. The cell limit and the free rows decide only whether the call is refused.
+-- goes in behind the last. The cell limit and the free rows decide only whether the call is refused; a cell more is counted by the rows and by the
+-- table of what the client wrote alike.
 -- Assumes nothing.
 use Prim.Native.Nat.{ℕ, _+_, _-_, _≤_, _<_}
 use mathlib.Core.Path.{_≡_, refl, sym, ap, _∙_}
-use mathlib.Core.Bool.{Bool, true, false, not}
-use mathlib.Core.List.{List, [], _∷_, _++_, map, append-assoc}
+use mathlib.Core.Bool.{Bool, true, false, not, true≢false}
+use mathlib.Core.List.{List, [], _∷_, _++_, map, append-assoc, List·Memᴰ as In}
+use mathlib.Core.Option.{none, some}
 use native.Mathlib.Omega.{arith}
-use borrow.Author.Tests.{leb-false, eqb-true, not-false}
+use borrow.Author.Tests.{leb-true, leb-false, eqb-true, eqb-false, not-true, not-false}
 use lib.ListN.{length, getD, set, take, drop, length-append}
 use lib.Seq.{getD-append-seam, set-append-seam, take-at, drop-at, length-take-le}
 use lib.Dec.{eqb, leb}
@@ -19,18 +21,19 @@ use Rattle.search.specs.declared.Found.{Found}
 use Rattle.search.specs.declared.Found.the-variants.{At, Missing}
 use Rattle.search.specs.Look.{isOwn, find}
 use Rattle.search.specs.Share.{cellsOf}
-use Rattle.spec.specs.Answers.{noClient, noCell, notOpen, wrongStage, cellLimit, noFreeRow, wrongLength}
+use Rattle.spec.specs.Answers.{Answered, noClient, noCell, notOpen, wrongStage, cellLimit, noFreeRow, wrongLength}
 use Rattle.spec.specs.Image.{Image, withRows, isOpen, stageOf, numberOf}
 use Rattle.spec.specs.Calls.{cells, givesFree, added, replaced, stored, write}
 use Rattle.spec.specs.Run.{Write}
+use Rattle.spec.specs.Table.{has}
+use Rattle.spec.specs.Right.{valued, for-cell, for-length, for-stage, for-limit, for-rows}
 use Rattle.spec.proofs.Wellformed.{Wellformed}
 use Rattle.spec.proofs.Model as m
-use Rattle.spec.proofs.Model.{replace, some?}
+use Rattle.spec.proofs.Model.{DRow, replace, some?, written}
 use Rattle.spec.proofs.Took.{no-write, replaces, adds}
-use Rattle.spec.proofs.View.{dataRowOf, clientOf, clientsAs, view, map-join, free-at}
-use Rattle.spec.proofs.Searches.{ownValue, own-yes, own-no, own-view}
+use Rattle.spec.proofs.View.{dataRowOf, clientOf, clientsAs, view, map-join, free-at, limit-at, stage-at, past-number}
+use Rattle.spec.proofs.Searches.{ownValue, own-yes, own-no, own-view, cells-view}
 use Rattle.spec.proofs.Does.{seenAs, Does, does, does-if, not-open, opens, at-first}
-use Rattle.spec.proofs.Simple.{not6}
 
 -- ---- a row with another value
 
@@ -124,21 +127,42 @@ module _ (i : Image) (k x : ℕ) (v : List ℕ) (z : Wellformed i) (l : length v
     added-figure : seenAs (Write k x v) (givesFree more) ≡ m.figured (view more)
     added-figure = rw (free-at more)
 
-    pub stored-does : (o : Found) → find (isOwn (numberOf i k) x) 0 (i .dataRows) ≡ o → Does i (Write k x v) (stored o k x v i)
-    unfolding added more
-    stored-does (At j) e = does i (Write k x v) (replaced j v i) (replaced-figure j ∙ replaced-view j e) (replaces k x v below isopen stage (rw (find-at, e) tt))
-    stored-does Missing e =
-        does-if i (Write k x v) (leb (i .limit) (cellsOf (numberOf i k) (i .dataRows))) (λ _. record { did = no-write k x v cellLimit (not6 cellLimit (λ e. omega arith)) }) (λ _.
-        does-if i (Write k x v) (leb (i .rows) (length (i .dataRows))) (λ _. record { did = no-write k x v noFreeRow (not6 noFreeRow (λ e. omega arith)) }) (λ _.
-        does i (Write k x v) (givesFree more) (added-figure ∙ added-view) (adds k x v below isopen stage (find-at ∙ rw e))))
+    -- the cells that the limit is held to, by the table of what the client wrote
+    count-at : (inside : (r : DRow) → In r (view i .dat) → r .cell < cells) → cellsOf (numberOf i k) (i .dataRows) ≡ valued cells (written (view i) k)
+    unfolding view clientsAs clientOf
+    count-at inside = cells-view (numberOf i k) (i .dataRows) inside
 
-pub write-does : (i : Image) (k x : ℕ) (v : List ℕ) → Wellformed i → numberOf i k < 4294967296 → Does i (Write k x v) (write k x v i)
+    pub stored-does : ((r : DRow) → In r (view i .dat) → r .cell < cells) → (o : Found) → find (isOwn (numberOf i k) x) 0 (i .dataRows) ≡ o
+        → Does i (Write k x v) (stored o k x v i)
+    unfolding added more
+    stored-does inside (At j) e =
+        let found : written (view i) k x ≡ some (valueOf (getD (i .dataRows) j [])) = find-at ∙ rw e in
+        does i (Write k x v) (replaced j v i) (replaced-figure j ∙ replaced-view j e)
+        (replaces k x v (record { cell = below; bytes = l; stage = stage; fewer = λ n. absurd (true≢false (sym (ap has found) ∙ n)) }) isopen (rw found tt))
+    stored-does inside Missing e =
+        let new : written (view i) k x ≡ none = find-at ∙ rw e in
+        let n : has (written (view i) k x) ≡ false = ap has new in
+        let c = count-at inside in
+        does-if i (Write k x v) (leb (i .limit) (cellsOf (numberOf i k) (i .dataRows)))
+        (λ f. record { did = no-write k x v cellLimit (λ _. for-limit below l stage n (omega (arith, c, limit-at i, leb-true (i .limit) _ f))) }) (λ f.
+        let fewer : valued cells (written (view i) k) < view i .bounds .limit = omega (arith, c, limit-at i, leb-false (i .limit) _ f) in
+        does-if i (Write k x v) (leb (i .rows) (length (i .dataRows)))
+        (λ g. record { did = no-write k x v noFreeRow (λ _. for-rows below l stage n fewer (ap (λ (m : ℕ). Answered m) (free-at i ∙ omega (arith, leb-true (i .rows) _ g)))) }) (λ _.
+        does i (Write k x v) (givesFree more) (added-figure ∙ added-view)
+        (adds k x v (record { cell = below; bytes = l; stage = stage; fewer = λ _. fewer }) isopen new)))
+
+pub write-does : (i : Image) (k x : ℕ) (v : List ℕ) → Wellformed i → numberOf i k < 4294967296 → ((r : DRow) → In r (view i .dat) → r .cell < cells)
+    → Does i (Write k x v) (write k x v i)
 unfolding write
-write-does i k x v z b =
-    does-if i (Write k x v) (leb clients k) (λ _. record { did = no-write k x v noClient (not6 noClient (λ e. omega arith)) }) (λ h.
-    does-if i (Write k x v) (leb cells x) (λ _. record { did = no-write k x v noCell (not6 noCell (λ e. omega arith)) }) (λ g.
-    does-if i (Write k x v) (not (eqb (length v) 16)) (λ _. record { did = no-write k x v wrongLength (not6 wrongLength (λ e. omega arith)) }) (λ l.
-    does-if i (Write k x v) (not (isOpen i k)) (λ e. record { did = no-write k x v notOpen (λ _. not-open i k e) }) (λ o.
-    does-if i (Write k x v) (not (eqb (stageOf i k) 0)) (λ _. record { did = no-write k x v wrongStage (not6 wrongStage (λ e. omega arith)) }) (λ f.
-    stored-does i k x v z (eqb-true (length v) 16 (not-false (eqb (length v) 16) l)) b (leb-false cells x g) (opens i k o) (at-first i k f)
-    (find (isOwn (numberOf i k) x) 0 (i .dataRows)) refl)))))
+write-does i k x v z b inside =
+    does-if i (Write k x v) (leb clients k)
+    (λ h. record { did = no-write k x v noClient (λ o. absurd (omega (arith, o, past-number i (z .tidy) k (leb-true clients k h)))) }) (λ h.
+    does-if i (Write k x v) (leb cells x) (λ g. record { did = no-write k x v noCell (λ _. for-cell (leb-true cells x g)) }) (λ g.
+    let below : x < cells = leb-false cells x g in
+    does-if i (Write k x v) (not (eqb (length v) 16))
+    (λ l. record { did = no-write k x v wrongLength (λ _. for-length below (eqb-false (length v) 16 (not-true (eqb (length v) 16) l))) }) (λ l.
+    let bytes : length v ≡ 16 = eqb-true (length v) 16 (not-false (eqb (length v) 16) l) in
+    does-if i (Write k x v) (not (isOpen i k)) (λ e. record { did = no-write k x v notOpen (λ o. absurd (omega (arith, o, not-open i k e))) }) (λ o.
+    does-if i (Write k x v) (not (eqb (stageOf i k) 0))
+    (λ f. record { did = no-write k x v wrongStage (λ _. for-stage below bytes (omega (arith, stage-at i k, eqb-false (stageOf i k) 0 (not-true (eqb (stageOf i k) 0) f)))) }) (λ f.
+    stored-does i k x v z bytes b below (opens i k o) (at-first i k f) inside (find (isOwn (numberOf i k) x) 0 (i .dataRows)) refl)))))

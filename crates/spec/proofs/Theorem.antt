@@ -13,7 +13,7 @@ use Rattle.spec.specs.Answers.{Answer}
 use Rattle.spec.specs.Calls.{top}
 use Rattle.spec.specs.Run.{Call}
 use Rattle.spec.specs.Table.{Told}
-use Rattle.spec.specs.Right.{ReadRefusal, numberAfter}
+use Rattle.spec.specs.Right.{Bounds, ReadRefusal, numberAfter}
 use Rattle.spec.proofs.Lists.{in-nil, ite-elim, none-some, first}
 use Rattle.spec.proofs.Tickets.{idle-queue, look, count}
 use Rattle.spec.proofs.Model.{DRow, State, Out, rph, cph, begun, overwritten, added, trimmed, takeR, takeC, listR, listC, lookR, lookC, checked, committed, closed, numOf, rphase, fresh}
@@ -21,10 +21,10 @@ use Rattle.spec.proofs.Plain.{Plain, Six, plain, onBegin, onWrite, onAb
 use Rattle.spec.proofs.Invariant.{Inv, whole}
 use Rattle.spec.proofs.Book.{write-added, write-replaced}
 use Rattle.spec.proofs.Arms.{Good, arm0, arm1, arm2, arm3, arm4, arm6, arm7, arm8, arm9, arm10, arm12, cph-in}
-use Rattle.spec.proofs.Deeds.{begin-good, read-good, write-good, abandon-good, arm0-ends, arm5, arm11, arm13, trim-good}
+use Rattle.spec.proofs.Deeds.{begin-good, read-good, write-refused, write-good, abandon-good, arm0-ends, arm5, arm11, arm13, trim-good}
 use Rattle.spec.proofs.Took.{Took, no-begin, no-read, no-write, no-advance, no-abandon, begins, reads, replaces, adds, at0, ends0, at1, at2, at3, at4, at5, at6, at7, at8, at9, at10, at11, at12, at13, abandons, trims, frees}
 
-module _ {rows : ℕ} {s : State} {p : Plain} (inv : Inv rows s p) where
+module _ {bounds : Bounds} {s : State} {p : Plain} (inv : Inv bounds s p) where
   -- the refusal 6 says that nothing is open
   six : (a r : ℕ) → (r ≡ 6 → s .cl a .number ≡ 0) → Six p a r
   six a r n e h _ = true≢false (sym h ∙ inv .one a .dead (n e))
@@ -33,17 +33,17 @@ module _ {rows : ℕ} {s : State} {p : Plain} (inv : Inv rows s p) where
   pub is-open : (a : ℕ) → p .cl a .live ≡ true → 1 ≤ s .cl a .number
   is-open a l = let z : s .cl a .number ≡ 0 → ⊥ = λ e. true≢false (sym l ∙ inv .one a .dead e) in omega (arith, z)
 
-  pub good : {q : Call} {o : Out (Answer (Told q))} → Took s q o → Good rows s p q o
+  pub good : {q : Call} {o : Out (Answer (Told q))} → Took s q o → Good bounds s p q o
   unfolding plain onBegin onWrite onAdvance onProgress onAbandon overwritten added
   good (no-begin a r n) = (λ e. absurd (n e), inv)
   good (no-read a x r n) = (λ l. subst (λ (g : ℕ). ReadRefusal x g r) (sym (inv .one a .on-stage)) (n (is-open a l)), inv)
-  good (no-write a x v r n) = (six a r n, inv)
+  good (no-write a x v r n) = (λ l. write-refused inv a x v r (is-open a l) (n (is-open a l)), inv)
   good (no-advance a r n) = (inv .one a .dead n, inv)
   good (no-abandon a r n) = (six a r n, inv)
   good (begins a h was w) = begin-good inv a h was
   good (reads a x hx o e) = read-good inv a x hx o e
-  good (replaces a x v hx o e k) = write-good inv a x v hx o e _ (write-replaced (s .cl a .number) x v (s .dat) k)
-  good (adds a x v hx o e n) = write-good inv a x v hx o e _ (write-added (s .cl a .number) x v (s .dat) n)
+  good (replaces a x v w o k) = write-good inv a x v w o _ (write-replaced (s .cl a .number) x v (s .dat) k)
+  good (adds a x v w o n) = write-good inv a x v w o _ (write-added (s .cl a .number) x v (s .dat) n)
   good (at0 a h o e k) = arm0 inv a o e k
   good (ends0 a h o e k) = arm0-ends inv a o e k
   good (at1 a h o e) = arm1 inv a o e
@@ -84,8 +84,8 @@ module _ {s : State} {w : ℕ} (n : Numbered w (s .W)) where
   numbered (no-abandon a r k) = n
   numbered (begins a h was k) = record { issued = omega arith; within = omega arith }
   numbered (reads a x hx o e) = n
-  numbered (replaces a x v hx o e k) = n
-  numbered (adds a x v hx o e k) = n
+  numbered (replaces a x v w o k) = n
+  numbered (adds a x v w o k) = n
   numbered (at0 a h o e k) = n
   numbered (ends0 a h o e k) = n
   numbered (at1 a h o e) = n
@@ -109,10 +109,10 @@ module _ {s : State} {w : ℕ} (n : Numbered w (s .W)) where
 
 -- ---- set-up
 
-pub starts : (rows w : ℕ) → Inv rows (fresh rows w) empty
+pub starts : (bounds : Bounds) (w : ℕ) → Inv bounds (fresh bounds w) empty
 unfolding fresh empty closed none-yet lastOf whole numOf first rphase
-starts rows w = record {
-  same-rows = refl;
+starts bounds w = record {
+  same-bounds = refl;
   counted = refl;
   last-le = omega arith;
   one = λ b. record {

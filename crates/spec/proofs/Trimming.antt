@@ -118,7 +118,7 @@ module _ (i : Image) where
 
   left-as : (d c : List Row) (n : ℕ)
       → out (view (withRows i d c)) (Answered n)
-      ≡ out record { rows = view i .rows; W = view i .W; R = view i .R; C = view i .C; last = view i .last; dat = map dataRowOf d; comm = map commitRowOf c; cl = view i .cl } (Answered n)
+      ≡ out record { bounds = view i .bounds; W = view i .W; R = view i .R; C = view i .C; last = view i .last; dat = map dataRowOf d; comm = map commitRowOf c; cl = view i .cl } (Answered n)
   unfolding view
   left-as d c n = refl
 

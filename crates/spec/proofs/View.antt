@@ -72,7 +72,7 @@ clientsAs c k = clientOf (at c k)
 
 unfoldable pub view : Image → State
 view i = record {
-  rows = i .rows;
+  bounds = record { rows = i .rows; limit = i .limit };
   W = i .counters .issued;
   R = i .counters .requested;
   C = i .counters .taken;
@@ -117,9 +117,9 @@ module _ (i : Image) where
   unfolding view
   last-at = refl
 
-  pub rows-at : view i .rows ≡ i .rows
+  pub limit-at : view i .bounds .limit ≡ i .limit
   unfolding view
-  rows-at = refl
+  limit-at = refl
 
   pub used-at : length (view i .dat) ≡ length (i .dataRows)
   unfolding view

@@ -19,7 +19,7 @@ pub perform-does : (q : Call) (i : Image) → Ready i → i .counters .issued �
 unfolding perform
 perform-does (Begin k) i h w = begin-does i k (h .fine) w
 perform-does (Read k x) i h w = read-does i k x (h .fine)
-perform-does (Write k x v) i h w = write-does i k x v (h .fine) (h .numbers k)
+perform-does (Write k x v) i h w = write-does i k x v (h .fine) (h .numbers k) (h .inside)
 perform-does (Advance k) i h w = advance-does i k h
 perform-does (Abandon k) i h w = abandon-does i k (h .fine)
 perform-does Trim i h w = trim-does i
@@ -29,6 +29,6 @@ none-open : clientsAs (clientsOf zeros zeros zeros zeros zeros zeros zeros) ≡ 
 unfolding clientsAs clientOf m.closed
 none-open = fun-ext (λ j. rw (zero-at clients j, none-listed))
 
-pub empty-view : (n l w : ℕ) → view (empty n l w) ≡ m.fresh n w
+pub empty-view : (n l w : ℕ) → view (empty n l w) ≡ m.fresh (record { rows = n; limit = l }) w
 unfolding view empty m.fresh
 empty-view n l w = rw none-open

@@ -87,10 +87,10 @@ after f s d c =
     if fits s (length d) (length c) then laidOut s d c (f (seen s d c)) else
     leaves s d c (Refused unfit)
 
--- ---- "Set-up is given the buffers, the first W and the cell limit (0 stands for 16)."
+-- ---- "Set-up is given the buffers, the first W and the cell limit", and document 02, 9: "A cell limit of 0 at set-up now stands for 8."
 
 abbrev pub defaultLimit : ℕ
-defaultLimit = 16
+defaultLimit = 8
 
 abbrev pub limitOf : ℕ → ℕ
 limitOf l = if eqb l 0 then defaultLimit else l

@@ -1,8 +1,8 @@
 -- The house cases of document 01 that are marked P, as rows of one table (case 1 with the read that document 02, 1 changes), two rows more for
--- mistakes of its list that these eight let pass, and rows for document 02: one for 1, two for 2. Each row has the lines that are put in, each
--- with the line that is to come out. proofs/House.antt proves the whole table.
+-- mistakes of its list that these eight let pass, and rows for document 02: one for 1, two for 2, two for 9. Each row has the lines that are put
+-- in, each with the line that is to come out. proofs/House.antt proves the whole table.
 -- Assumes nothing.
-use Prim.Native.Nat.{ℕ, zero, suc, _+_}
+use Prim.Native.Nat.{ℕ, zero, suc, _+_, _-_}
 use Prim.Native.String.{String}
 use mathlib.Core.List.{List, [], _∷_, _++_, map, flatten}
 use Rattle.spec.specs.Text.{str, decimalOf}
@@ -28,6 +28,16 @@ stages k g (suc n) =
       got = str "(advance " ++ decimalOf k ++ str " (stage " ++ decimalOf g ++ str "))";
     }
     ∷ stages k (g + 1) n
+
+-- n writes of client k, to the cells from x on, that answer a free figure falling from f - 1
+abbrev pub newCells : ℕ → ℕ → ℕ → ℕ → List Exchange
+newCells k x f zero = []
+newCells k x f (suc n) =
+    record {
+      put = str "(write " ++ decimalOf k ++ str " " ++ decimalOf x ++ str " 000102030405060708090a0b0c0d0e0f)";
+      got = str "(write " ++ decimalOf k ++ str " " ++ decimalOf x ++ str " (free " ++ decimalOf (f - 1) ++ str "))";
+    }
+    ∷ newCells k (x + 1) (f - 1) n
 
 -- the whole input of a case, and the whole output
 abbrev pub inputOf : Case → List ℕ
@@ -330,6 +340,39 @@ cases =
           ∷ [])
           ++ stages 0 1 13
           ++ ("(advance 0)" ⇒ "(advance 0 (done 3))"
+          ∷ []);
+    }
+    ∷ record {
+      name = "limit 0: eight cells";
+      exchanges =
+          ("(set-up 12 1 0)" ⇒ "(set-up (free 12))"
+          ∷ "(begin 0)" ⇒ "(begin 0 (number 1) (snapshot 0))"
+          ∷ [])
+          ++ newCells 0 0 12 8
+          ++ ("(write 0 8 000102030405060708090a0b0c0d0e0f)" ⇒ "(write 0 8 (refused 9))"
+          -- the eighth is overwritten
+          ∷ "(write 0 7 ffeeddccbbaa99887766554433221100)" ⇒ "(write 0 7 (free 4))"
+          ∷ "(read 0 7)" ⇒ "(read 0 7 (value ffeeddccbbaa99887766554433221100))"
+          ∷ "(read 0 8)" ⇒ "(read 0 8 (unwritten))"
+          -- the limit is one for each transaction: another client writes the ninth cell, and client 0, begun again, has eight anew
+          ∷ "(begin 1)" ⇒ "(begin 1 (number 2) (snapshot 0))"
+          ∷ "(write 1 8 000102030405060708090a0b0c0d0e0f)" ⇒ "(write 1 8 (free 3))"
+          ∷ "(abandon 0)" ⇒ "(abandon 0 (free 11))"
+          ∷ "(begin 0)" ⇒ "(begin 0 (number 3) (snapshot 0))"
+          ∷ [])
+          ++ newCells 0 100 11 8
+          ++ ("(write 0 8 000102030405060708090a0b0c0d0e0f)" ⇒ "(write 0 8 (refused 9))"
+          ∷ []);
+    }
+    ∷ record {
+      name = "limit 16, by name: sixteen cells";
+      exchanges =
+          ("(set-up 17 1 16)" ⇒ "(set-up (free 17))"
+          ∷ "(begin 0)" ⇒ "(begin 0 (number 1) (snapshot 0))"
+          ∷ [])
+          ++ newCells 0 0 17 16
+          ++ ("(write 0 16 000102030405060708090a0b0c0d0e0f)" ⇒ "(write 0 16 (refused 9))"
+          ∷ "(write 0 15 ffeeddccbbaa99887766554433221100)" ⇒ "(write 0 15 (free 1))"
           ∷ []);
     }
     ∷ []

@@ -1,6 +1,6 @@
 -- What demand 3 says of each answer, by the plain table that was told all calls before it, and of a whole list of calls.
 -- Assumes nothing.
-use Prim.Native.Nat.{ℕ, zero, suc, _+_, _-_, _≤_, _<_}
+use Prim.Native.Nat.{ℕ, zero, suc, _+_, _-_, _/_, _≤_, _<_}
 use mathlib.Core.Path.{_≡_}
 use mathlib.Core.Logic.{_≢_, _⊎_}
 use mathlib.Core.Bool.{Bool, true, false}
@@ -12,13 +12,22 @@ use Rattle.rows.specs.Rows.{rowsIn}
 use Rattle.spec.specs.declared.Begun.{Begun}
 use Rattle.spec.specs.declared.Progress.{Progress}
 use Rattle.spec.specs.declared.Progress.the-variants.{Stage, Waiting, Conflict, Done}
-use Rattle.spec.specs.Answers.{Answer, Answered, Refused, unfit, noCell, notOpen, wrongStage}
+use Rattle.spec.specs.Answers.{Answer, Answered, Refused, unfit, noCell, notOpen, wrongStage, cellLimit, noFreeRow, wrongLength}
 use Rattle.spec.specs.Calls.{cells}
-use Rattle.spec.specs.Bytes.{fits, After}
+use Rattle.spec.specs.Bytes.{fits, After, limitOf}
 use Rattle.spec.specs.Run.{Call, Begin, Read, Write, Advance, Abandon, Trim, Free, Gives, refusals, Listed, Memory, memoryOf, takes}
 use Rattle.spec.specs.Table.{Value, Values, has, Commit, Open, Table, blank, orElse, Told, told, tell}
 
 -- ---- the words of the demands
+
+-- what a set-up gives its store: the rows, and the cell limit, how many cells a transaction may write
+pub record Bounds : Type 0 where
+  pub rows : ℕ
+  pub limit : ℕ
+
+-- by the data buffer and the limit that it was given
+abbrev pub boundsOf : List ℕ → ℕ → Bounds
+boundsOf d l = record { rows = length d / 24; limit = limitOf l }
 
 -- the last number in the book, 0 if there is none
 unfoldable pub lastNumber : List Commit → ℕ
@@ -101,10 +110,31 @@ abbrev pub RightRead : Table → ℕ → ℕ → Answer (Option Value) → Type 
 RightRead t k x (Answered v) = (o : Open) × (t .clients k ≡ some o) × (v ≡ orElse (o .writes x) (o .copy x)) × (o .stage ≤ 11) × (x < cells)
 RightRead t k x (Refused n) = (o : Open) → t .clients k ≡ some o → ReadRefusal x (o .stage) n
 
--- an answered Write or Abandon is one of an open client; from stage 12 on none is answered
-abbrev pub RightFigure : ℕ → Table → ℕ → Answer ℕ → Type 0
-RightFigure g t k (Answered f) = (o : Open) × (t .clients k ≡ some o) × (o .stage < g)
-RightFigure g t k (Refused n) = RightRefusal (t .clients k) n
+-- A Write of value v to cell x by an open client at stage g that has the writes w, under a cell limit. Answered: at stage 0, and "if it has no
+-- row for that cell yet" only with fewer cells written than the limit, which is 8 where set-up was given 0 (document 02, 9)
+pub record WriteAnswer (limit g : ℕ) (w : Values) (x : ℕ) (v : Value) : Type 0 where
+  pub cell : x < cells
+  pub bytes : length v ≡ 16
+  pub stage : g ≡ 0
+  pub fewer : has (w x) ≡ false → valued cells w < limit
+
+-- Refused with n: "4, 12 value not 16 bytes, [..] 7; then, if it has no row for that cell yet, 9 cell limit reached, 10 no free row", in this order
+-- and for nothing else, so never with 6; next is what Free would answer next
+pub data WriteRefusal (limit g : ℕ) (w : Values) (x : ℕ) (v : Value) (next : Answer ℕ) : ℕ → Type 0 where
+  for-cell : cells ≤ x → WriteRefusal limit g w x v next noCell
+  for-length : x < cells → length v ≢ 16 → WriteRefusal limit g w x v next wrongLength
+  for-stage : x < cells → length v ≡ 16 → 1 ≤ g → WriteRefusal limit g w x v next wrongStage
+  for-limit : x < cells → length v ≡ 16 → g ≡ 0 → has (w x) ≡ false → limit ≤ valued cells w → WriteRefusal limit g w x v next cellLimit
+  for-rows : x < cells → length v ≡ 16 → g ≡ 0 → has (w x) ≡ false → valued cells w < limit → next ≡ Answered 0 → WriteRefusal limit g w x v next noFreeRow
+
+abbrev pub RightWrite : ℕ → Table → ℕ → ℕ → Value → Answer ℕ → Answer ℕ → Type 0
+RightWrite limit t k x v (Answered f) next = (o : Open) × (t .clients k ≡ some o) × WriteAnswer limit (o .stage) (o .writes) x v
+RightWrite limit t k x v (Refused n) next = (o : Open) → t .clients k ≡ some o → WriteRefusal limit (o .stage) (o .writes) x v next n
+
+-- an answered Abandon is one of an open client; from stage 12 on none is answered
+abbrev pub RightAbandon : Table → ℕ → Answer ℕ → Type 0
+RightAbandon t k (Answered f) = (o : Open) × (t .clients k ≡ some o) × (o .stage < 12)
+RightAbandon t k (Refused n) = RightRefusal (t .clients k) n
 
 -- an Advance of an open client is never refused: neither with 11, which "never occurs any more" (document 02, 2), nor with 2: a store grown from
 -- set-up does not meet the refusals 2 of Advance
@@ -118,16 +148,16 @@ abbrev pub RightTrim : ℕ → Table → Answer ℕ → Answer ℕ → Type 0
 RightTrim rows t (Answered n) next = ((k : ℕ) → t .clients k ≡ none) → next ≡ Answered (rows - valued cells (t .values))
 RightTrim rows t (Refused n) next = Unit {0}
 
--- of a store with that many rows: the answer a to a call q is right, by the table t and the last number w of a Begin before it; next is what
--- Free would answer next
-abbrev pub Right : ℕ → ℕ → Table → (q : Call) → Answer (Told q) → Answer ℕ → Type 0
-Right rows w t (Begin k) a next = RightBegin w t k a
-Right rows w t (Read k x) a next = RightRead t k x a
-Right rows w t (Write k x v) a next = RightFigure 1 t k a
-Right rows w t (Advance k) a next = RightAdvance t k a
-Right rows w t (Abandon k) a next = RightFigure 12 t k a
-Right rows w t Trim a next = RightTrim rows t a next
-Right rows w t Free a next = Unit {0}
+-- of a store with these bounds: the answer a to a call q is right, by the table t and the last number w of a Begin before it; next is what Free
+-- would answer next
+abbrev pub Right : Bounds → ℕ → Table → (q : Call) → Answer (Told q) → Answer ℕ → Type 0
+Right b w t (Begin k) a next = RightBegin w t k a
+Right b w t (Read k x) a next = RightRead t k x a
+Right b w t (Write k x v) a next = RightWrite (b .limit) t k x v a next
+Right b w t (Advance k) a next = RightAdvance t k a
+Right b w t (Abandon k) a next = RightAbandon t k a
+Right b w t Trim a next = RightTrim (b .rows) t a next
+Right b w t Free a next = Unit {0}
 
 -- the last number of a Begin, after this call
 abbrev pub numberAfter : (q : Call) → Answer (Told q) → ℕ → ℕ
@@ -147,11 +177,11 @@ abbrev pub tells : (q : Call) → Memory → Answer (Told q)
 tells q m = told q (rowsIn 24 (takes q m .store .used) (takes q m .dataBytes)) (takes q m .answer)
 
 -- Every answer of the list is right, by the plain table that was told the calls and answers before it.
-abbrev pub RightRun : ℕ → ℕ → Table → Memory → List Call → Type 0
-RightRun rows w t m [] = Unit {0}
-RightRun rows w t m (q ∷ qs) =
-    Right rows w t q (tells q m) (takes Free (memoryOf (takes q m)) .answer)
-    × RightRun rows (numberAfter q (tells q m) w) (tell q (tells q m) t) (memoryOf (takes q m)) qs
+abbrev pub RightRun : Bounds → ℕ → Table → Memory → List Call → Type 0
+RightRun b w t m [] = Unit {0}
+RightRun b w t m (q ∷ qs) =
+    Right b w t q (tells q m) (takes Free (memoryOf (takes q m)) .answer)
+    × RightRun b (numberAfter q (tells q m) w) (tell q (tells q m) t) (memoryOf (takes q m)) qs
 
 -- every call of the list gets 2 and changes nothing
 abbrev pub AllUnfit : Memory → List Call → Type 0

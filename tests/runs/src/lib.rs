@@ -1,10 +1,12 @@
 //! Runs the step program on a script, and holds its output to the reference model and to the plain table, with the landed tickets in force.
 
+use model::calls::Call;
 use model::check::check_under;
 use model::coverage::Coverage;
-use model::forms::Grammar;
+use model::forms::{form_text, lines, Form, Grammar};
 use model::gen::generate_under;
-use model::tickets::Tickets;
+use model::tickets::{Ticket, Tickets};
+use std::collections::{BTreeMap, BTreeSet};
 use std::io::{Read, Write};
 use std::path::PathBuf;
 use std::process::{Command, Stdio};
@@ -18,6 +20,11 @@ pub fn landed() -> Tickets {
 /// The step program's forms and answers with the landed tickets in force.
 pub fn grammar() -> Grammar {
     Grammar::step(landed())
+}
+
+/// The same as before ticket 9: all the other landed tickets in force.
+pub fn grammar_before_9() -> Grammar {
+    Grammar::step(landed().without(Ticket::SmallerLimit))
 }
 
 /// Where the proved program is built.
@@ -70,4 +77,55 @@ pub fn generated(seed: u64, lines: usize, profile: &str) -> Coverage {
     let printed = held(&format!("{profile} {seed}"), &script.text);
     assert_eq!(printed.iter().filter(|byte| **byte == b'\n').count(), lines);
     script.coverage
+}
+
+/// A script with 16 for 0 as the cell limit of its set-ups, and not a byte else changed.
+pub fn with_16_for_0(script: &[u8]) -> Vec<u8> {
+    let named = lines(script).into_iter().map(|line| match grammar().parse(line) {
+        Some(Form::SetUp { rows, first_w, limit: 0 }) => form_text(&Form::SetUp { rows, first_w, limit: 16 }).into_bytes(),
+        _ => line.to_vec(),
+    });
+    let mut named = named.collect::<Vec<_>>().join(&b'\n');
+    named.extend(script.ends_with(b"\n").then_some(b'\n'));
+    named
+}
+
+/// One Write of a new cell by an open client, as the lines of a run tell it.
+#[derive(Debug, PartialEq, Eq)]
+pub struct NewCell {
+    /// The cell limit of the set-up in force, as it was given.
+    pub limit: u32,
+    /// How many different cells the client had written since it began.
+    pub written: usize,
+    /// The answer's result.
+    pub result: String,
+}
+
+/// All of them in a run, told from its forms and answers alone.
+pub fn new_cells(script: &[u8], printed: &[u8]) -> Vec<NewCell> {
+    let (mut limit, mut cells, mut found) = (0, BTreeMap::<u32, BTreeSet<u32>>::new(), Vec::new());
+    for (line, answer) in lines(script).into_iter().zip(lines(printed)) {
+        let answer = String::from_utf8_lossy(answer);
+        let refused = answer.contains("(refused ");
+        match grammar().parse(line) {
+            Some(Form::SetUp { limit: given, .. }) if !refused => {
+                limit = given;
+                cells.clear();
+            }
+            Some(Form::Call(Call::Begin { client })) if !refused => {
+                cells.insert(client, BTreeSet::new());
+            }
+            Some(Form::Call(Call::Write { client, cell, .. })) => {
+                if let Some(own) = cells.get_mut(&client).filter(|own| !own.contains(&cell)) {
+                    let result = answer[answer.find(" (").map_or(0, |at| at + 1)..answer.len() - 1].to_string();
+                    found.push(NewCell { limit, written: own.len(), result });
+                    if !refused {
+                        own.insert(cell);
+                    }
+                }
+            }
+            _ => (),
+        }
+    }
+    found
 }

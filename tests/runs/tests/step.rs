@@ -4,7 +4,8 @@ use model::coverage::Coverage;
 use model::gen::{generate_under, profiles};
 use model::session::run_under;
 use model::tickets::Ticket;
-use runs::{generated, grammar, held, landed, output, output_in_pieces};
+use runs::{generated, grammar, grammar_before_9, held, landed, new_cells, output, output_in_pieces, with_16_for_0};
+use std::collections::BTreeSet;
 use std::fs;
 use std::path::Path;
 
@@ -59,7 +60,7 @@ fn scripts_of_tickets() {
 #[test]
 fn examples() {
     let (all, other) = scripts("../../examples", "txt");
-    assert!(all.len() >= 6);
+    assert!(all.len() >= 7);
     assert!(other.is_empty(), "{other:?}");
 }
 
@@ -68,6 +69,64 @@ fn examples() {
 fn stored_run() {
     let stored = |name| fs::read(Path::new(env!("CARGO_MANIFEST_DIR")).join("../../crates/step").join(name)).unwrap();
     assert!(stored("stdout") == due(&stored("stdin")));
+}
+
+/// Ticket 9: "its stored runs, with 16 for 0 in their set-ups, must print the same as before". The runs are stored as they were, with the outputs of
+/// before (`make outputs` has the model make them with ticket 9 not in force); with 0 left in, two of the three print something else now.
+#[test]
+fn stored_runs_of_the_tournament_desk() {
+    let (mut all, mut other) = (0, Vec::new());
+    for entry in fs::read_dir(Path::new(env!("CARGO_MANIFEST_DIR")).join("../tournament")).unwrap() {
+        let path = entry.unwrap().path();
+        if path.extension().is_some_and(|e| e == "txt") {
+            let name = path.file_stem().unwrap().to_string_lossy().into_owned();
+            let (script, before) = (fs::read(&path).unwrap(), fs::read(path.with_extension("out")).unwrap());
+            assert!(before == run_under(grammar_before_9(), &script).into_bytes(), "{name}: the stored output");
+            assert!(held(&name, &with_16_for_0(&script)) == before, "{name}: with 16 for 0");
+            if held(&name, &script) != before {
+                other.push(name);
+            }
+            all += 1;
+        }
+    }
+    other.sort();
+    assert_eq!((all, other), (3, vec!["generated".to_string(), "sixteen-lanes".to_string()]));
+}
+
+/// The same of the scripts that the generator made before ticket 9.
+#[test]
+fn generated_scripts_of_before_the_smaller_limit() {
+    let mut other = 0;
+    for profile in profiles(grammar_before_9()) {
+        for seed in SEEDS {
+            let script = generate_under(grammar_before_9(), seed, LINES / 4, profile).unwrap().text;
+            let before = run_under(grammar_before_9(), &script).into_bytes();
+            assert!(held(profile, &with_16_for_0(&script)) == before, "{profile} {seed}");
+            other += usize::from(output(&script) != before);
+        }
+    }
+    assert!(other > 0, "no script tells a limit of 8 from one of 16");
+}
+
+/// Told from forms and answers alone: an open client's Write of a new cell gets 9 just where it has written as many cells as the limit says, 8 where
+/// set-up was given 0. Limits 0, 8 and 16 are met, each at the last cell that it lets through and at the first that it does not.
+#[test]
+fn the_cell_limit() {
+    let mut met = BTreeSet::new();
+    for seed in SEEDS {
+        let script = generate_under(grammar(), seed, LINES, "limits").unwrap().text;
+        for new in new_cells(&script, &held("limits", &script)) {
+            let most = if new.limit == 0 { 8 } else { new.limit as usize };
+            let at_stage_0 = new.result != "(refused 7)" && new.result != "(refused 6)" && new.result != "(refused 4)";
+            assert_eq!(new.result == "(refused 9)", at_stage_0 && new.written >= most, "{new:?}");
+            if at_stage_0 {
+                met.insert((new.limit, new.written));
+            }
+        }
+    }
+    for (limit, written) in [(0, 7), (0, 8), (8, 7), (8, 8), (16, 15), (16, 16)] {
+        assert!(met.contains(&(limit, written)), "limit {limit}, {written} cells written");
+    }
 }
 
 #[test]

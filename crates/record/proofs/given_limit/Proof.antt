@@ -1,4 +1,4 @@
--- `record::given_limit`: 0 stands for 16.
+-- `record::given_limit`: 0 stands for the default limit.
 -- Assumes nothing.
 use borrow.Author.Tests.{eq-eqb, ne-eqb}
 use Rattle.record.proofs.given_limit.Statement.{statement}
