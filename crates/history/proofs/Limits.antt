@@ -2,9 +2,9 @@
 -- leaves the count of its cells; one to another cell adds one to it, and is answered only where it was below the limit (`WriteAnswer`). No other
 -- call changes what a client wrote.
 -- Assumes nothing.
-use Prim.Native.Nat.{ℕ, _≤_}
+use Prim.Native.Nat.{ℕ}
 use mathlib.Core.Path.{_≡_, refl, sym, ap, _∙_, subst}
-use mathlib.Core.Logic.{by-cases}
+use mathlib.Core.Logic.{_≢_, by-cases}
 use mathlib.Core.Bool.{Bool, true, false}
 use mathlib.Core.List.{List, [], _∷_}
 use mathlib.Core.Option.{Option, none, some}
@@ -15,28 +15,31 @@ use Rattle.spec.specs.declared.Progress.the-variants.{Stage, Waiting, Conflict,
 use Rattle.spec.specs.Answers.{Answer, Answered, Refused}
 use Rattle.spec.specs.Calls.{cells}
 use Rattle.spec.specs.Run.{Call, Begin, Read, Write, Advance, Abandon, Trim, Free, Memory}
-use Rattle.spec.specs.Table.{Value, Values, has, Open, Table, blank, unwritten, put, reaches, Told, tell}
+use Rattle.spec.specs.Table.{Value, Values, has, Open, Table, blank, unwritten, put, withClient, withWrites, atStage, opens, reaches, Told, tell}
 use Rattle.spec.specs.Right.{Bounds, valued, WriteAnswer, Right, tells, RightRun}
 use Rattle.spec.proofs.Lists.{none-some, same-some}
 use Rattle.spec.proofs.Counts.{valued-none, valued-same, valued-more}
-use Rattle.history.specs.Demand.{tableAfter, Capped}
+use Rattle.history.specs.Demand.{tableAfter, Within, Capped}
 use Rattle.history.proofs.Book.{either}
 use Rattle.history.proofs.Between.{put-same, put-other}
 
 -- ---- one cell more
 
-module _ (w : Values) (x : ℕ) (v : Value) where
+module _ (o : Open) (x : ℕ) (v : Value) where
+  abbrev w : Values
+  w = o .writes
+
   here : has (put x (some v) w x) ≡ true
   here = ap has (put-same x (some v) w)
 
-  elsewhere : (y : ℕ) → (y ≡ x → ⊥) → has (put x (some v) w y) ≡ has (w y)
+  elsewhere : (y : ℕ) → y ≢ x → has (put x (some v) w y) ≡ has (w y)
   elsewhere y n = ap has (put-other x (some v) w y n)
 
-  -- the cells written after an answered Write
-  wrote-most : (limit g : ℕ) → WriteAnswer limit g w x v → valued cells w ≤ limit → valued cells (put x (some v) w) ≤ limit
-  wrote-most limit g a h = go (has (w x)) refl
+  -- after an answered Write
+  still-within : (limit : ℕ) → WriteAnswer limit (o .stage) w x v → Within limit o → Within limit (withWrites (put x (some v) w) o)
+  still-within limit a h = go (has (w x)) refl
     where
-      go : (b : Bool) → has (w x) ≡ b → valued cells (put x (some v) w) ≤ limit
+      go : (b : Bool) → has (w x) ≡ b → Within limit (withWrites (put x (some v) w) o)
       go true e =
           omega (
             arith,
@@ -49,38 +52,39 @@ module _ (w : Values) (x : ℕ) (v : Value) where
 -- ---- one call
 
 module _ (limit : ℕ) (t : Table) (h : Capped limit t) where
-  -- an entry is replaced by one with no more cells than the limit
-  entry : (k : ℕ) (a : Option Open) → ((o : Open) → a ≡ some o → valued cells (o .writes) ≤ limit)
-      → (j : ℕ) (o : Open) → put k a (t .clients) j ≡ some o → valued cells (o .writes) ≤ limit
+  -- client k's entry is replaced
+  entry : (k : ℕ) (a : Option Open) → ((o : Open) → a ≡ some o → Within limit o) → (j : ℕ) (o : Open) → put k a (t .clients) j ≡ some o → Within limit o
   entry k a g j o e =
       by-cases (ℕ-discrete j k)
       (λ q. g o (sym (put-same k a (t .clients)) ∙ ap (put k a (t .clients)) (sym q) ∙ e))
       (λ n. h j o (sym (put-other k a (t .clients) j n) ∙ e))
 
-  opened : (k : ℕ) (o : Open) → valued cells (o .writes) ≤ limit → (j : ℕ) (p : Open) → put k (some o) (t .clients) j ≡ some p → valued cells (p .writes) ≤ limit
-  opened k o c = entry k (some o) (λ p e. subst (λ (z : Open). valued cells (z .writes) ≤ limit) (same-some e) c)
+  open-capped : (k : ℕ) (o : Open) → Within limit o → Capped limit (withClient k (some o) t)
+  open-capped k o c = entry k (some o) (λ p e. subst (Within limit) (same-some e) c)
 
-  shut : (k : ℕ) (j : ℕ) (p : Open) → put k none (t .clients) j ≡ some p → valued cells (p .writes) ≤ limit
-  shut k = entry k none (λ p e. absurd (none-some refl e))
+  shut-capped : (k : ℕ) → Capped limit (withClient k none t)
+  shut-capped k = entry k none (λ p e. absurd (none-some refl e))
 
+  -- a step changes no writes
   stage-capped : (k g : ℕ) (o : Open) → t .clients k ≡ some o → Capped limit (reaches k g t (some o))
   unfolding reaches
   stage-capped k g o e =
-      either (Capped limit) (eqb g 8) (λ _. opened k _ (h k o e)) (λ _. either (Capped limit) (eqb g 12) (λ _. opened k _ (h k o e)) (λ _. opened k _ (h k o e)))
+      let c : (f n : ℕ) → Capped limit (withClient k (some (atStage f n o)) t) = λ f n. open-capped k (atStage f n o) (h k o e) in
+      either (Capped limit) (eqb g 8) (λ _. c 8 _) (λ _. either (Capped limit) (eqb g 12) (λ _. c 12 _) (λ _. c g _))
 
 call-capped : (n : Bounds) (w : ℕ) (t : Table) (q : Call) (a : Answer (Told q)) (next : Answer ℕ) → Right n w t q a next → Capped (n .limit) t
     → Capped (n .limit) (tell q a t)
 unfolding tell
 call-capped n w t q (Refused m) next r h = h
-call-capped n w t (Begin k) (Answered a) next r h = opened (n .limit) t h k _ (omega (arith, valued-none cells unwritten (λ x. refl)))
+call-capped n w t (Begin k) (Answered a) next r h = open-capped (n .limit) t h k (opens t) (omega (arith, valued-none cells unwritten (λ x. refl)))
 call-capped n w t (Read k x) (Answered a) next r h = h
 call-capped n w t (Write k x v) (Answered a) next r h =
-    rw (r .1) (opened (n .limit) t h k _ (wrote-most (r .0 .writes) x v (n .limit) (r .0 .stage) (r .2) (h k (r .0) (r .1))))
+    rw (r .1) (open-capped (n .limit) t h k _ (still-within (r .0) x v (n .limit) (r .2) (h k (r .0) (r .1))))
 call-capped n w t (Advance k) (Answered (Stage g)) next r h = rw (r .1) (stage-capped (n .limit) t h k g (r .0) (r .1))
 call-capped n w t (Advance k) (Answered (Waiting m)) next r h = h
-call-capped n w t (Advance k) (Answered (Conflict m)) next r h = shut (n .limit) t h k
-call-capped n w t (Advance k) (Answered (Done m)) next r h = shut (n .limit) t h k
-call-capped n w t (Abandon k) (Answered a) next r h = shut (n .limit) t h k
+call-capped n w t (Advance k) (Answered (Conflict m)) next r h = shut-capped (n .limit) t h k
+call-capped n w t (Advance k) (Answered (Done m)) next r h = shut-capped (n .limit) t h k
+call-capped n w t (Abandon k) (Answered a) next r h = shut-capped (n .limit) t h k
 call-capped n w t Trim (Answered a) next r h = h
 call-capped n w t Free (Answered a) next r h = h
 

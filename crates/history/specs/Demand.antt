@@ -49,9 +49,13 @@ pub record Valued (x : ℕ) (t : Values) (l : List Commit) : Type 0 where
 
 -- ---- the cell limit
 
--- no open client has written more cells than the limit
+-- the client has written at most as many cells as the limit says
+abbrev pub Within : ℕ → Open → Type 0
+Within limit o = valued cells (o .writes) ≤ limit
+
+-- so has every open client
 abbrev pub Capped : ℕ → Table → Type 0
-Capped limit t = (k : ℕ) (o : Open) → t .clients k ≡ some o → valued cells (o .writes) ≤ limit
+Capped limit t = (k : ℕ) (o : Open) → t .clients k ≡ some o → Within limit o
 
 -- ---- what happens between two calls of one transaction
 

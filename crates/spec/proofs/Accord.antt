@@ -1,6 +1,6 @@
 -- The definitions in accord with documents 01 and 02: sentences of them, each as a law of the definitions or as an example that they compute.
 -- Assumes nothing.
-use Prim.Native.Nat.{ℕ, _≤_, _<_}
+use Prim.Native.Nat.{ℕ, zero, suc, _≤_, _<_}
 use mathlib.Core.Path.{_≡_, refl}
 use mathlib.Core.Bool.{Bool, true, false}
 use mathlib.Core.Logic.{_⊎_, inl, inr}
@@ -10,7 +10,7 @@ use native.Mathlib.Omega.{arith}
 use borrow.Author.Tests.{le-ltb, le-leb, lt-leb, eq-eqb, ne-eqb}
 use Rattle.sets.specs.Choice.{if_then_else_}
 use Rattle.sets.specs.Set.{clients, bit, member, remove, size}
-use Rattle.rows.specs.Rows.{number, bytesOf, dataRow, tagOf, cellOf, commitRow, commitNumber, commitTag, filter, hasTag}
+use Rattle.rows.specs.Rows.{Row, number, bytesOf, dataRow, tagOf, cellOf, commitRow, commitNumber, commitTag, filter, hasTag}
 use Rattle.search.specs.Numbers.{lesser, smallest, above}
 use Rattle.search.specs.Look.{commitOf, isOwn}
 use Rattle.search.specs.Share.{any, wrote, cellsOf, clash, conflict}
@@ -51,6 +51,26 @@ sixteen-by-name d c w = if-limited 16 (accepts (length d) (length c) w 0) _ _ _ 
 pub by-name : (d c : List ℕ) (w l : ℕ) → 1 ≤ l → l ≤ 64 → setUp d c w l ≡ withLimit l (setUp d c w 0)
 unfolding setUp accepts storeOf empty
 by-name d c w l h g = rw (le-ltb 64 l g, ne-eqb l 0 (λ e. omega arith)) (if-limited l (accepts (length d) (length c) w 0) _ _ _ refl refl)
+
+-- client 0's transaction 1 wrote the cells below n, all values zero, in a store of 12 rows with a limit of 8
+abbrev value : List ℕ
+value = replicate 16 0
+
+abbrev rowsBelow : ℕ → List Row
+rowsBelow zero = []
+rowsBelow (suc n) = dataRow 1 n value ∷ rowsBelow n
+
+abbrev wroteBelow : ℕ → Image
+wroteBelow n = imageOf 12 8 (countersOf 1 0 0 0) (clientsOf zeros (set zeros 0 1) zeros zeros zeros zeros zeros) (rowsBelow n) []
+
+-- "9 cell limit reached": the eighth cell is written, the ninth is not
+pub eighth : added 0 7 value (wroteBelow 7) .answer ≡ Answered 4
+unfolding added cellsOf wrote any isOwn hasTag tagOf cellOf number dataRow bytesOf
+eighth = refl
+
+pub ninth : added 0 8 value (wroteBelow 8) ≡ refuse cellLimit (wroteBelow 8)
+unfolding added cellsOf wrote any isOwn hasTag tagOf cellOf number dataRow bytesOf
+ninth = refl
 
 -- ---- refusals
 
@@ -103,9 +123,6 @@ unfolding looked
 wait-first g k w i h = rw (ne-eqb w 0 h)
 
 -- the examples: a store of 4 rows, all values zero
-abbrev value : List ℕ
-value = replicate 16 0
-
 abbrev closedAll : Clients
 closedAll = clientsOf zeros zeros zeros zeros zeros zeros zeros
 
