@@ -1,6 +1,7 @@
 -- The book of the plain table. A call changes it only by an Advance of an open client that answers Stage 12, which puts the client's commit to
 -- its end. Where that answer is right, the commit's number is above the last in the book, so the numbers rise (`rising-run`); and the table
--- then has a value just where it had one or the commit wrote one (`valued-run`). Both go by one induction over the calls (`along`).
+-- then has a value just where it had one or the commit wrote one (`valued-run`). Both go by one induction over the calls (`along`, of
+-- any claim on the table).
 -- Assumes nothing.
 use Prim.Native.Nat.{ℕ, _<_}
 use mathlib.Core.Path.{_≡_, refl, sym, ap, _∙_}
@@ -24,6 +25,13 @@ either P true f g = f refl
 either P false f g = g refl
 
 -- ---- what holds after every list of rightly answered calls
+
+-- a claim on the table that every rightly answered call keeps
+module _ (n : Bounds) (P : Table → Type 0)
+    (keeps : (w : ℕ) (t : Table) (q : Call) (a : Answer (Told q)) (next : Answer ℕ) → Right n w t q a next → P t → P (tell q a t)) where
+  pub along : (qs : List Call) (w : ℕ) (t : Table) (m : Memory) → RightRun n w t m qs → P t → P (tableAfter qs m t)
+  along [] w t m r h = h
+  along (q ∷ qs) w t m r h = along qs _ _ _ (r .1) (keeps w t q (tells q m) _ (r .0) h)
 
 -- a claim on values and book that every commit numbered above the last keeps
 module _ (P : Values → List Commit → Type 0)
@@ -50,10 +58,9 @@ module _ (P : Values → List Commit → Type 0)
   call-keeps n w t Trim (Answered a) next r h = h
   call-keeps n w t Free (Answered a) next r h = h
 
-  along : (qs : List Call) (n : Bounds) (w : ℕ) (t : Table) (m : Memory) → RightRun n w t m qs → P (t .values) (t .book)
+  book-along : (qs : List Call) (n : Bounds) (w : ℕ) (t : Table) (m : Memory) → RightRun n w t m qs → P (t .values) (t .book)
       → P (tableAfter qs m t .values) (tableAfter qs m t .book)
-  along [] n w t m r h = h
-  along (q ∷ qs) n w t m r h = along qs n _ _ _ (r .1) (call-keeps n w t q (tells q m) _ (r .0) h)
+  book-along qs n = along n (λ t. P (t .values) (t .book)) (call-keeps n) qs
 
 -- ---- the numbers rise
 
@@ -65,7 +72,7 @@ rising-append (d ∷ f ∷ l) e h r = (r .0, rising-append (f ∷ l) e h (r .1))
 
 pub rising-run : (qs : List Call) (n : Bounds) (w : ℕ) (m : Memory) → RightRun n w blank m qs → Rising (tableAfter qs m blank .book)
 unfolding blank
-rising-run qs n w m r = along (λ v l. Rising l) (λ k t o h. rising-append (t .book) _ h) qs n w blank m r tt
+rising-run qs n w m r = book-along (λ v l. Rising l) (λ k t o h. rising-append (t .book) _ h) qs n w blank m r tt
 
 -- ---- the cells with a value
 
@@ -99,7 +106,7 @@ pub valued-run : (qs : List Call) (n : Bounds) (w : ℕ) (m : Memory) → RightR
     → Valued x (tableAfter qs m blank .values) (tableAfter qs m blank .book)
 unfolding blank
 valued-run qs n w m r x =
-    along (Valued x) (λ k t o _. valued-append x k t o) qs n w blank m r record {
+    book-along (Valued x) (λ k t o _. valued-append x k t o) qs n w blank m r record {
       ever = λ e. absurd (false≢true e);
       still = λ z. absurd (in-nil (z .1));
     }

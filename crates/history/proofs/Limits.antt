@@ -6,7 +6,7 @@ use Prim.Native.Nat.{ℕ}
 use mathlib.Core.Path.{_≡_, refl, sym, ap, _∙_, subst}
 use mathlib.Core.Logic.{_≢_, by-cases}
 use mathlib.Core.Bool.{Bool, true, false}
-use mathlib.Core.List.{List, [], _∷_}
+use mathlib.Core.List.{List}
 use mathlib.Core.Option.{Option, none, some}
 use native.Mathlib.Decide.{ℕ-discrete}
 use native.Mathlib.Omega.{arith}
@@ -16,11 +16,11 @@ use Rattle.spec.specs.Answers.{Answer, Answered, Refused}
 use Rattle.spec.specs.Calls.{cells}
 use Rattle.spec.specs.Run.{Call, Begin, Read, Write, Advance, Abandon, Trim, Free, Memory}
 use Rattle.spec.specs.Table.{Value, Values, has, Open, Table, blank, unwritten, put, withClient, withWrites, atStage, opens, reaches, Told, tell}
-use Rattle.spec.specs.Right.{Bounds, valued, WriteAnswer, Right, tells, RightRun}
+use Rattle.spec.specs.Right.{Bounds, valued, WriteAnswer, Right, RightRun}
 use Rattle.spec.proofs.Lists.{none-some, same-some}
 use Rattle.spec.proofs.Counts.{valued-none, valued-same, valued-more}
 use Rattle.history.specs.Demand.{tableAfter, Within, Capped}
-use Rattle.history.proofs.Book.{either}
+use Rattle.history.proofs.Book.{either, along}
 use Rattle.history.proofs.Between.{put-same, put-other}
 
 -- ---- one cell more
@@ -47,7 +47,7 @@ module _ (o : Open) (x : ℕ) (v : Value) where
             valued-same cells (put x (some v) w) w (λ y _.
                 by-cases (ℕ-discrete y x) (λ q. ap (λ (z : ℕ). has (put x (some v) w z)) q ∙ here ∙ sym e ∙ ap (λ (z : ℕ). has (w z)) (sym q)) (elsewhere y)),
           )
-      go false e = omega (arith, a .fewer e, valued-more cells (put x (some v) w) w x (a .cell) here e elsewhere)
+      go false e = omega (arith, a .fewer e, valued-more cells (put x (some v) w) w x (a .may .cell) here e elsewhere)
 
 -- ---- one call
 
@@ -90,10 +90,6 @@ call-capped n w t Free (Answered a) next r h = h
 
 -- ---- lists of calls
 
-along : (qs : List Call) (n : Bounds) (w : ℕ) (t : Table) (m : Memory) → RightRun n w t m qs → Capped (n .limit) t → Capped (n .limit) (tableAfter qs m t)
-along [] n w t m r h = h
-along (q ∷ qs) n w t m r h = along qs n _ _ _ (r .1) (call-capped n w t q (tells q m) _ (r .0) h)
-
 pub capped-run : (qs : List Call) (n : Bounds) (w : ℕ) (m : Memory) → RightRun n w blank m qs → Capped (n .limit) (tableAfter qs m blank)
 unfolding blank
-capped-run qs n w m r = along qs n w blank m r (λ k o e. absurd (none-some refl e))
+capped-run qs n w m r = along n (Capped (n .limit)) (call-capped n) qs w blank m r (λ k o e. absurd (none-some refl e))

@@ -300,17 +300,15 @@ module _ {bounds : Bounds} {s : State} {p : Plain} (inv : Inv bounds s p) (a : �
   write-refused x v r isopen (for-cell h) = for-cell h
   write-refused x v r isopen (for-length h l) = for-length h l
   write-refused x v r isopen (for-stage h l e) = for-stage h l (omega (arith, inv .one a .on-stage))
-  write-refused x v r isopen (for-limit h l e n m) =
-      by-table (λ b g w. WriteRefusal b g w x v (Answered (free s)) cellLimit) isopen e (for-limit h l e n m)
-  write-refused x v r isopen (for-rows h l e n m f) =
-      by-table (λ b g w. WriteRefusal b g w x v (Answered (free s)) noFreeRow) isopen e (for-rows h l e n m f)
+  write-refused x v r isopen (for-limit h n m) = by-table (λ b g w. WriteRefusal b g w x v (Answered (free s)) cellLimit) isopen (h .stage) (for-limit h n m)
+  write-refused x v r isopen (for-rows h n m f) = by-table (λ b g w. WriteRefusal b g w x v (Answered (free s)) noFreeRow) isopen (h .stage) (for-rows h n m f)
 
   -- A write.
-  module _ (x : ℕ) (v : Value) (may : WriteAnswer (s .bounds .limit) (s .cl a .stage) (written s a) x v) (isopen : 1 ≤ s .cl a .number) where
+  module _ (x : ℕ) (v : Value) (fits : WriteAnswer (s .bounds .limit) (s .cl a .stage) (written s a) x v) (isopen : 1 ≤ s .cl a .number) where
     pub write-good : (dat′ : List DRow) → Written (s .cl a .number) x v (s .dat) dat′ → Good bounds s p (Write a x v) (figured (withData s dat′ (s .cl)))
     unfolding plain onWrite rphase lateness
     write-good dat′ w = (
-      (inv .one a .live isopen, by-table (λ b g w. WriteAnswer b g w x v) isopen (may .stage) may),
+      (inv .one a .live isopen, by-table (λ b g w. WriteAnswer b g w x v) isopen (fits .may .stage) fits),
       record {
         same-bounds = inv .same-bounds;
         counted = inv .counted;
@@ -336,13 +334,13 @@ module _ {bounds : Bounds} {s : State} {p : Plain} (inv : Inv bounds s p) (a : �
           concerns = λ b d hb hd r. (r .0, others b hb (r .0) (r .1), others d hd (r .0) (r .2));
         } (omega arith);
         cq = inv .cq;
-        tab = tab-written (inv .tab) a (λ b m. ap (λ (z : PClient). seenOf (s .cl b) z) (setP-off a q (p .cl) b m)) x v dat′ (may .cell) isopen (omega (arith, e)) w
+        tab = tab-written (inv .tab) a (λ b m. ap (λ (z : PClient). seenOf (s .cl b) z) (setP-off a q (p .cl) b m)) x v dat′ (fits .may .cell) isopen (omega (arith, e)) w
             (ap (λ (z : PClient). seenOf (s .cl a) z) (setP-at a q (p .cl)));
       },
     )
       where
         e : s .cl a .stage ≡ 0
-        e = may .stage
+        e = fits .may .stage
 
         q : PClient
         q = rewritten (p .cl a) x v

@@ -26,7 +26,7 @@ use Rattle.spec.specs.Image.{Image, withRows, isOpen, stageOf, numberOf}
 use Rattle.spec.specs.Calls.{cells, givesFree, added, replaced, stored, write}
 use Rattle.spec.specs.Run.{Write}
 use Rattle.spec.specs.Table.{has}
-use Rattle.spec.specs.Right.{valued, for-cell, for-length, for-stage, for-limit, for-rows}
+use Rattle.spec.specs.Right.{valued, Writable, for-cell, for-length, for-stage, for-limit, for-rows}
 use Rattle.spec.proofs.Wellformed.{Wellformed}
 use Rattle.spec.proofs.Model as m
 use Rattle.spec.proofs.Model.{DRow, replace, some?, written}
@@ -132,24 +132,27 @@ module _ (i : Image) (k x : ℕ) (v : List ℕ) (z : Wellformed i) (l : length v
     unfolding view clientsAs clientOf
     count-at inside = cells-view (numberOf i k) (i .dataRows) inside
 
+    may : Writable (view i .cl k .stage) x v
+    may = record { cell = below; bytes = l; stage = stage }
+
     pub stored-does : ((r : DRow) → In r (view i .dat) → r .cell < cells) → (o : Found) → find (isOwn (numberOf i k) x) 0 (i .dataRows) ≡ o
         → Does i (Write k x v) (stored o k x v i)
     unfolding added more
     stored-does inside (At j) e =
         let found : written (view i) k x ≡ some (valueOf (getD (i .dataRows) j [])) = find-at ∙ rw e in
         does i (Write k x v) (replaced j v i) (replaced-figure j ∙ replaced-view j e)
-        (replaces k x v (record { cell = below; bytes = l; stage = stage; fewer = λ n. absurd (true≢false (sym (ap has found) ∙ n)) }) isopen (rw found tt))
+        (replaces k x v (record { may = may; fewer = λ n. absurd (true≢false (sym (ap has found) ∙ n)) }) isopen (rw found tt))
     stored-does inside Missing e =
         let new : written (view i) k x ≡ none = find-at ∙ rw e in
         let n : has (written (view i) k x) ≡ false = ap has new in
         let c = count-at inside in
         does-if i (Write k x v) (leb (i .limit) (cellsOf (numberOf i k) (i .dataRows)))
-        (λ f. record { did = no-write k x v cellLimit (λ _. for-limit below l stage n (omega (arith, c, limit-at i, leb-true (i .limit) _ f))) }) (λ f.
+        (λ f. record { did = no-write k x v cellLimit (λ _. for-limit may n (omega (arith, c, limit-at i, leb-true (i .limit) _ f))) }) (λ f.
         let fewer : valued cells (written (view i) k) < view i .bounds .limit = omega (arith, c, limit-at i, leb-false (i .limit) _ f) in
         does-if i (Write k x v) (leb (i .rows) (length (i .dataRows)))
-        (λ g. record { did = no-write k x v noFreeRow (λ _. for-rows below l stage n fewer (ap (λ (m : ℕ). Answered m) (free-at i ∙ omega (arith, leb-true (i .rows) _ g)))) }) (λ _.
+        (λ g. record { did = no-write k x v noFreeRow (λ _. for-rows may n fewer (ap (λ (m : ℕ). Answered m) (free-at i ∙ omega (arith, leb-true (i .rows) _ g)))) }) (λ _.
         does i (Write k x v) (givesFree more) (added-figure ∙ added-view)
-        (adds k x v (record { cell = below; bytes = l; stage = stage; fewer = λ _. fewer }) isopen new)))
+        (adds k x v (record { may = may; fewer = λ _. fewer }) isopen new)))
 
 pub write-does : (i : Image) (k x : ℕ) (v : List ℕ) → Wellformed i → numberOf i k < 4294967296 → ((r : DRow) → In r (view i .dat) → r .cell < cells)
     → Does i (Write k x v) (write k x v i)

@@ -110,26 +110,33 @@ abbrev pub RightRead : Table → ℕ → ℕ → Answer (Option Value) → Type 
 RightRead t k x (Answered v) = (o : Open) × (t .clients k ≡ some o) × (v ≡ orElse (o .writes x) (o .copy x)) × (o .stage ≤ 11) × (x < cells)
 RightRead t k x (Refused n) = (o : Open) → t .clients k ≡ some o → ReadRefusal x (o .stage) n
 
--- A Write of value v to cell x by an open client at stage g that has the writes w, under a cell limit. Answered: at stage 0, and "if it has no
--- row for that cell yet" only with fewer cells written than the limit, which is 8 where set-up was given 0 (document 02, 9)
-pub record WriteAnswer (limit g : ℕ) (w : Values) (x : ℕ) (v : Value) : Type 0 where
+-- ---- a Write of value v to cell x by an open client at stage g with the writes w, under a cell limit
+
+-- of a cell that there is, with sixteen bytes, at stage 0
+pub record Writable (g x : ℕ) (v : Value) : Type 0 where
   pub cell : x < cells
   pub bytes : length v ≡ 16
   pub stage : g ≡ 0
+
+-- answered: a new cell only with fewer cells written than the limit, which is 8 where set-up was given 0 (document 02, 9)
+pub record WriteAnswer (limit g : ℕ) (w : Values) (x : ℕ) (v : Value) : Type 0 where
+  pub may : Writable g x v
   pub fewer : has (w x) ≡ false → valued cells w < limit
 
--- Refused with n: "4, 12 value not 16 bytes, [..] 7; then, if it has no row for that cell yet, 9 cell limit reached, 10 no free row", in this order
+-- refused with n: "4, 12 value not 16 bytes, [..] 7; then, if it has no row for that cell yet, 9 cell limit reached, 10 no free row", in this order
 -- and for nothing else, so never with 6; next is what Free would answer next
 pub data WriteRefusal (limit g : ℕ) (w : Values) (x : ℕ) (v : Value) (next : Answer ℕ) : ℕ → Type 0 where
   for-cell : cells ≤ x → WriteRefusal limit g w x v next noCell
   for-length : x < cells → length v ≢ 16 → WriteRefusal limit g w x v next wrongLength
   for-stage : x < cells → length v ≡ 16 → 1 ≤ g → WriteRefusal limit g w x v next wrongStage
-  for-limit : x < cells → length v ≡ 16 → g ≡ 0 → has (w x) ≡ false → limit ≤ valued cells w → WriteRefusal limit g w x v next cellLimit
-  for-rows : x < cells → length v ≡ 16 → g ≡ 0 → has (w x) ≡ false → valued cells w < limit → next ≡ Answered 0 → WriteRefusal limit g w x v next noFreeRow
+  for-limit : Writable g x v → has (w x) ≡ false → limit ≤ valued cells w → WriteRefusal limit g w x v next cellLimit
+  for-rows : Writable g x v → has (w x) ≡ false → valued cells w < limit → next ≡ Answered 0 → WriteRefusal limit g w x v next noFreeRow
 
 abbrev pub RightWrite : ℕ → Table → ℕ → ℕ → Value → Answer ℕ → Answer ℕ → Type 0
 RightWrite limit t k x v (Answered f) next = (o : Open) × (t .clients k ≡ some o) × WriteAnswer limit (o .stage) (o .writes) x v
 RightWrite limit t k x v (Refused n) next = (o : Open) → t .clients k ≡ some o → WriteRefusal limit (o .stage) (o .writes) x v next n
+
+-- ---- the other calls
 
 -- an answered Abandon is one of an open client; from stage 12 on none is answered
 abbrev pub RightAbandon : Table → ℕ → Answer ℕ → Type 0
