@@ -16,7 +16,7 @@ use Rattle.spec.specs.Answers.{Answer, Answered, Refused}
 use Rattle.spec.specs.Calls.{cells}
 use Rattle.spec.specs.Run.{Call, Begin, Read, Write, Advance, Abandon, Trim, Free, Memory}
 use Rattle.spec.specs.Table.{Value, Values, has, Open, Table, blank, unwritten, put, withClient, withWrites, atStage, opens, reaches, Told, tell}
-use Rattle.spec.specs.Right.{Bounds, valued, WriteAnswer, Right, RightRun}
+use Rattle.spec.specs.Right.{Bounds, WriteAnswer, Right, RightRun}
 use Rattle.spec.proofs.Lists.{none-some, same-some}
 use Rattle.spec.proofs.Counts.{valued-none, valued-same, valued-more}
 use Rattle.history.specs.Demand.{tableAfter, Within, Capped}

@@ -9,7 +9,6 @@ use mathlib.Core.Bool.{true, false, false≢true}
 use mathlib.Core.Option.{Option, none, some, IsSome}
 use native.Mathlib.Decide.{ℕ-discrete}
 use native.Mathlib.Omega.{arith}
-use Rattle.sets.specs.Choice.{if_then_else_}
 use Rattle.spec.specs.Table.{Value, Values, has}
 use Rattle.spec.specs.Right.{valued}
 

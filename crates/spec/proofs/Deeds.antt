@@ -282,7 +282,7 @@ module _ {bounds : Bounds} {s : State} {p : Plain} (inv : Inv bounds s p) (a : �
     unfolding plain
     read-good = ((inv .one a .live isopen, shows, omega (arith, inv .one a .on-stage), below), inv)
 
-  -- What client a wrote by its rows is what it wrote by the plain table, up to its commit.
+  -- What client a wrote by its rows is, at stage 0, what it wrote by the plain table.
   same-writes : 1 ≤ s .cl a .number → s .cl a .stage ≡ 0 → written s a ≡ p .cl a .writes
   unfolding lateness
   same-writes isopen e = fun-ext (λ x. inv .tab .mine a isopen .held (omega arith) x)

@@ -4,10 +4,10 @@
 -- Assumes nothing.
 use Prim.Native.Nat.{ℕ, zero, suc, _+_, _-_, _≤_}
 use mathlib.Core.Path.{_≡_, refl, sym, _∙_, ap, subst, fun-ext}
-use mathlib.Core.Logic.{_≢_, inl, inr, ite, if-pos, if-neg, by-cases}
-use mathlib.Core.Bool.{Bool, true, false, false≢true}
+use mathlib.Core.Logic.{inl, inr, ite, if-pos, if-neg, by-cases}
+use mathlib.Core.Bool.{Bool, true, false}
 use mathlib.Core.List.{List, [], _∷_, _++_, List·Memᴰ as In, List·Memᴰ·head as here, List·Memᴰ·tail as there}
-use mathlib.Core.Option.{Option, none, some, IsSome}
+use mathlib.Core.Option.{Option, none, some}
 use native.Mathlib.Decide.{ℕ-discrete, decLe}
 use native.Mathlib.Numerals.{add-one}
 use native.Mathlib.Omega.{arith}
@@ -19,9 +19,8 @@ use Rattle.sets.specs.Choice.{if_then_else_}
 use Rattle.spec.specs.declared.Progress.{Progress}
 use Rattle.spec.specs.declared.Progress.the-variants.{Stage, Waiting, Conflict, Done}
 use Rattle.spec.specs.Answers.{Answer, Answered, Refused}
-use Rattle.spec.specs.Calls.{cells}
 use Rattle.spec.specs.Run.{Call, Begin, Read, Write, Advance, Abandon, Trim, Free}
-use Rattle.spec.specs.Table.{Value, Values, has, Commit, Open, Table, blank, put, reaches, Told, tell}
+use Rattle.spec.specs.Table.{has, Commit, Open, Table, blank, put, reaches, Told, tell}
 use Rattle.spec.specs.Right as r
 use Rattle.spec.specs.Right.{Bounds, lastNumber, Clash, RightRefusal, ReadRefusal, WriteRefusal}
 use Rattle.spec.proofs.Lists.{in-nil, in-case, in-one, in-left, in-right, append-case, none-some, same-some}

@@ -3,9 +3,9 @@
 -- one. An entry since the client began is above its snapshot, so nothing that the client sees supersedes it: it has its row, and the check's
 -- smallest clash is the book's. After a trim with nothing open each cell with a value has one row, so rows are counted by cells.
 -- Assumes nothing.
-use Prim.Native.Nat.{ℕ, zero, suc, _-_, _≤_, _<_}
+use Prim.Native.Nat.{ℕ, suc, _-_, _≤_, _<_}
 use mathlib.Core.Path.{_≡_, refl, sym, _∙_, ap, subst}
-use mathlib.Core.Logic.{_≢_, _⊎_, ite, if-pos, if-neg, by-cases, ⊎-elim, apply-ite}
+use mathlib.Core.Logic.{_≢_, _⊎_, ite, if-pos, if-neg, by-cases, ⊎-elim}
 use mathlib.Core.List.{List, [], _∷_, List·Memᴰ as In, List·Memᴰ·head as here, List·Memᴰ·tail as there}
 use mathlib.Core.Option.{Option, none, some, IsSome, Option·some-injective}
 use native.Mathlib.Decide.{ℕ-discrete, decLe, decLt}

@@ -1,7 +1,7 @@
 -- The plain table as the proofs keep it, a device: its newest commit stands first in the book, and the book keeps what each commit wrote, so
 -- that the rows can be held against the book. Erase.antt maps it to the plain table of the statement (specs/Table.antt), step by step.
 -- Assumes nothing.
-use Prim.Native.Nat.{ℕ, zero, suc, _-_, _≤_, _<_}
+use Prim.Native.Nat.{ℕ, suc, _-_, _≤_, _<_}
 use mathlib.Core.Path.{_≡_}
 use mathlib.Core.Logic.{_⊎_, ite}
 use mathlib.Core.Bool.{Bool, true, false}

@@ -68,7 +68,7 @@ unfolding lookup committedAt view clientsAs clientOf
 lookup-view i k x = found-view (numberOf i k) x (snapshotOf i k) (i .commitRows) (i .dataRows)
 
 -- a refusal that is not 6
-pub not6 : {X : Type 0} (r : ℕ) → (r ≡ notOpen → ⊥) → r ≡ notOpen → X
+not6 : {X : Type 0} (r : ℕ) → (r ≡ notOpen → ⊥) → r ≡ notOpen → X
 not6 r n e = absurd (n e)
 
 pub read-does : (i : Image) (k x : ℕ) → Wellformed i → Does i (Read k x) (read k x i)
