@@ -7,7 +7,7 @@ use model::tickets::Ticket;
 use runs::{generated, grammar, grammar_before_9, held, landed, new_cells, output, output_in_pieces, with_16_for_0};
 use std::collections::BTreeSet;
 use std::fs;
-use std::path::Path;
+use std::path::{Path, PathBuf};
 
 const LINES: usize = 40_000;
 const SEEDS: std::ops::RangeInclusive<u64> = 1..=3;
@@ -20,30 +20,28 @@ fn due(input: &[u8]) -> Vec<u8> {
     run_under(grammar(), input).into_bytes()
 }
 
-/// Every script of a folder, by its files' extension, is held to the model; the names of all, and of those that print something else than what
-/// is stored beside them.
-fn scripts(folder: &str, extension: &str) -> (Vec<String>, Vec<String>) {
-    let (mut all, mut other) = (Vec::new(), Vec::new());
-    for entry in fs::read_dir(Path::new(env!("CARGO_MANIFEST_DIR")).join(folder)).unwrap() {
-        let path = entry.unwrap().path();
-        if path.extension().is_some_and(|e| e == extension) {
-            let name = path.file_stem().unwrap().to_string_lossy().into_owned();
-            let printed = held(&name, &fs::read(&path).unwrap());
-            if printed != fs::read(path.with_extension("out")).unwrap() {
-                other.push(name.clone());
-            }
-            all.push(name);
-        }
-    }
-    other.sort();
-    (all, other)
+/// Every script of a folder, by its files' extension, in the order of their names: its name, its text and the output stored beside it.
+fn stored(folder: &str, extension: &str) -> Vec<(String, Vec<u8>, Vec<u8>)> {
+    let folder = fs::read_dir(Path::new(env!("CARGO_MANIFEST_DIR")).join(folder)).unwrap();
+    let mut paths: Vec<_> = folder.map(|entry| entry.unwrap().path()).filter(|path| path.extension().is_some_and(|e| e == extension)).collect();
+    paths.sort();
+    let read = |path: &PathBuf| fs::read(path).unwrap();
+    let name = |path: &PathBuf| path.file_stem().unwrap().to_string_lossy().into_owned();
+    paths.iter().map(|path| (name(path), read(path), read(&path.with_extension("out")))).collect()
+}
+
+/// Every script of a folder is held to the model; how many there are, and the names of those that print something else than what is stored.
+fn scripts(folder: &str, extension: &str) -> (usize, Vec<String>) {
+    let all = stored(folder, extension);
+    let other = all.iter().filter(|(name, script, due)| held(name, script) != *due);
+    (all.len(), other.map(|(name, _, _)| name.clone()).collect())
 }
 
 /// The house cases print what document 01 makes due, but for those that a landed ticket changes.
 #[test]
 fn house_cases() {
     let (all, other) = scripts("../model/tests/house", "in");
-    assert!(all.len() >= 12);
+    assert!(all >= 12);
     assert_eq!(other, CHANGED);
 }
 
@@ -52,7 +50,7 @@ fn house_cases() {
 fn scripts_of_tickets() {
     let (all, other) = scripts("../model/tests/tickets", "in");
     let of_landed = |name: &&String| Ticket::ALL.iter().any(|t| landed().has(*t) && name.starts_with(&format!("{:02}-", t.number())));
-    assert!(all.len() >= 11);
+    assert!(all >= 11);
     assert_eq!(other.iter().filter(of_landed).count(), 0, "{other:?}");
 }
 
@@ -60,7 +58,7 @@ fn scripts_of_tickets() {
 #[test]
 fn examples() {
     let (all, other) = scripts("../../examples", "txt");
-    assert!(all.len() >= 7);
+    assert!(all >= 7);
     assert!(other.is_empty(), "{other:?}");
 }
 
@@ -71,41 +69,41 @@ fn stored_run() {
     assert!(stored("stdout") == due(&stored("stdin")));
 }
 
-/// Ticket 9: "its stored runs, with 16 for 0 in their set-ups, must print the same as before". The runs are stored as they were, with the outputs of
-/// before (`make outputs` has the model make them with ticket 9 not in force); with 0 left in, two of the three print something else now.
-#[test]
-fn stored_runs_of_the_tournament_desk() {
-    let (mut all, mut other) = (0, Vec::new());
-    for entry in fs::read_dir(Path::new(env!("CARGO_MANIFEST_DIR")).join("../tournament")).unwrap() {
-        let path = entry.unwrap().path();
-        if path.extension().is_some_and(|e| e == "txt") {
-            let name = path.file_stem().unwrap().to_string_lossy().into_owned();
-            let (script, before) = (fs::read(&path).unwrap(), fs::read(path.with_extension("out")).unwrap());
-            assert!(before == run_under(grammar_before_9(), &script).into_bytes(), "{name}: the stored output");
-            assert!(held(&name, &with_16_for_0(&script)) == before, "{name}: with 16 for 0");
-            if held(&name, &script) != before {
-                other.push(name);
-            }
-            all += 1;
-        }
-    }
-    other.sort();
-    assert_eq!((all, other), (3, vec!["generated".to_string(), "sixteen-lanes".to_string()]));
+/// Ticket 9: "its stored runs, with 16 for 0 in their set-ups, must print the same as before". What a script printed before, by the model with that
+/// ticket not in force: the program prints the same for it with 16 for 0.
+fn as_before(name: &str, script: &[u8]) -> Vec<u8> {
+    let before = run_under(grammar_before_9(), script).into_bytes();
+    assert!(held(name, &with_16_for_0(script)) == before, "{name}");
+    before
 }
 
-/// The same of the scripts that the generator made before ticket 9.
+/// The tournament desk's runs, stored as they were, with the outputs of before. With 0 left in, two of the three print something else now.
 #[test]
-fn generated_scripts_of_before_the_smaller_limit() {
+fn stored_runs_of_the_tournament_desk() {
+    let runs = stored("../tournament", "txt");
+    assert_eq!(runs.len(), 3);
+    for (name, script, before) in &runs {
+        assert!(as_before(name, script) == *before, "{name}: the stored output");
+    }
+    assert_eq!(scripts("../tournament", "txt").1, ["generated", "sixteen-lanes"]);
+}
+
+/// The same of every other script here, and of the scripts that the generator made before ticket 9. Of the examples one shows that ticket.
+#[test]
+fn scripts_of_before_the_smaller_limit() {
+    for (folder, extension) in [("../model/tests/house", "in"), ("../model/tests/tickets", "in")] {
+        stored(folder, extension).iter().for_each(|(name, script, _)| drop(as_before(name, script)));
+    }
+    let examples = stored("../../examples", "txt").into_iter().filter(|(name, script, due)| as_before(name, script) != *due);
+    assert_eq!(examples.map(|(name, _, _)| name).collect::<Vec<_>>(), ["limit"]);
     let mut other = 0;
     for profile in profiles(grammar_before_9()) {
         for seed in SEEDS {
             let script = generate_under(grammar_before_9(), seed, LINES / 4, profile).unwrap().text;
-            let before = run_under(grammar_before_9(), &script).into_bytes();
-            assert!(held(profile, &with_16_for_0(&script)) == before, "{profile} {seed}");
-            other += usize::from(output(&script) != before);
+            other += usize::from(output(&script) != as_before(profile, &script));
         }
     }
-    assert!(other > 0, "no script tells a limit of 8 from one of 16");
+    assert!(other > 0, "no generated script tells a limit of 8 from one of 16");
 }
 
 /// Told from forms and answers alone: an open client's Write of a new cell gets 9 just where it has written as many cells as the limit says, 8 where
