@@ -1,5 +1,5 @@
 -- No transaction writes more cells than the limit. A client that begins has written none. An answered Write to a cell that the client has written
--- leaves the count of its cells; one to another cell adds one to it, and is answered only where it was below the limit (`WriteAnswer`). No other
+-- leaves the count of its cells; one to another cell adds one to it, and is answered only where it was below the limit (`WriteAllowed`). No other
 -- call changes what a client wrote.
 -- Assumes nothing.
 use Prim.Native.Nat.{ℕ}
@@ -16,7 +16,7 @@ use Rattle.spec.specs.Answers.{Answer, Answered, Refused}
 use Rattle.spec.specs.Calls.{cells}
 use Rattle.spec.specs.Run.{Call, Begin, Read, Write, Advance, Abandon, Trim, Free, Memory}
 use Rattle.spec.specs.Table.{Value, Values, has, Open, Table, blank, unwritten, put, withClient, withWrites, atStage, opens, reaches, Told, tell}
-use Rattle.spec.specs.Right.{Bounds, WriteAnswer, Right, RightRun}
+use Rattle.spec.specs.Right.{Bounds, WriteAllowed, Right, RightRun}
 use Rattle.spec.proofs.Lists.{none-some, same-some}
 use Rattle.spec.proofs.Counts.{valued-none, valued-same, valued-more}
 use Rattle.history.specs.Demand.{tableAfter, Within, Capped}
@@ -36,7 +36,7 @@ module _ (o : Open) (x : ℕ) (v : Value) where
   elsewhere y n = ap has (put-other x (some v) w y n)
 
   -- after an answered Write
-  still-within : (limit : ℕ) → WriteAnswer limit (o .stage) w x v → Within limit o → Within limit (withWrites (put x (some v) w) o)
+  still-within : (limit : ℕ) → WriteAllowed limit (o .stage) w x v → Within limit o → Within limit (withWrites (put x (some v) w) o)
   still-within limit a h = go (has (w x)) refl
     where
       go : (b : Bool) → has (w x) ≡ b → Within limit (withWrites (put x (some v) w) o)

@@ -228,7 +228,7 @@ pub fn acceptable(d: usize, c: usize, first: u32, limit: u32) -> bool
 }
 
 // The cell limit that 0 at set-up stands for.
-pub const DEFAULT_LIMIT: u32 = 8;
+const DEFAULT_LIMIT: u32 = 8;
 
 // The cell limit that a set-up was given.
 pub fn given_limit(limit: u32) -> u32

@@ -12,7 +12,7 @@ use native.Mathlib.Decide.{ℕ-discrete, decLe, decLt}
 use native.Mathlib.Omega.{arith}
 use Rattle.spec.proofs.Lists.{in-case, none-some, option-case}
 use Rattle.spec.proofs.Tickets.{Queue, low, exclusive}
-use Rattle.spec.proofs.Model.{newcomer, DRow, Client, State, find, written, rphase, cphase, rph, cph, put, same, closed, clearBoth, atStage, out, checked, committed, begun, lookup, committedAt, figured, free, without, leave, removed, withData, trimmed, smallest, checkKey, snapshots, lesser, default, low as lowOf}
+use Rattle.spec.proofs.Model.{newcomer, DRow, Client, State, find, writesOf, rphase, cphase, rph, cph, put, same, closed, clearBoth, atStage, out, checked, committed, begun, lookup, committedAt, figured, free, without, leave, removed, withData, trimmed, smallest, checkKey, snapshots, lesser, default, low as lowOf}
 use Rattle.spec.proofs.Plain.{restaged, onProgress, opening, rewritten, Entry, PClient, Plain, NoClash, setP, plain, onBegin, onWrite, onAbandon, onAdvance, onStage, made, ended, none-yet, Shares}
 use Rattle.spec.proofs.Invariant.{Seen, view, lateness, Tab, One, Rel, Always, Inv}
 use Rattle.spec.proofs.Moves.{put-at, put-off, setP-at, setP-off, each, Tame, tame-same, tame-both, others-R, others-C, moves, seenOf, seen-off, seen-at, one-off}
@@ -22,7 +22,7 @@ use Rattle.spec.proofs.Tables.{tab-done, tab-removed, tab-begun, tab-wr
 use Rattle.spec.proofs.Lookups.{read-right, check-none, check-least, trim-count}
 use Rattle.spec.proofs.Arms.{Good, cph-in, onStage-moved, R-past, C-low, C-own, late-step}
 use Rattle.spec.specs.Table.{Value, Values, orElse}
-use Rattle.spec.specs.Right.{Bounds, WriteAnswer, WriteRefusal, for-cell, for-length, for-stage, for-limit, for-rows}
+use Rattle.spec.specs.Right.{Bounds, WriteAllowed, WriteRefusal, for-cell, for-length, for-stage, for-limit, for-rows}
 use Rattle.spec.specs.declared.Progress.the-variants.{Done}
 use Rattle.spec.specs.Answers.{Answered, cellLimit, noFreeRow}
 use Rattle.spec.specs.Run.{Begin, Read, Write, Advance, Abandon, Trim}
@@ -283,19 +283,19 @@ module _ {bounds : Bounds} {s : State} {p : Plain} (inv : Inv bounds s p) (a : �
     read-good = ((inv .one a .live isopen, shows, omega (arith, inv .one a .on-stage), below), inv)
 
   -- What client a wrote by its rows is, at stage 0, what it wrote by the plain table.
-  same-writes : 1 ≤ s .cl a .number → s .cl a .stage ≡ 0 → written s a ≡ p .cl a .writes
+  same-writes : 1 ≤ s .cl a .number → s .cl a .stage ≡ 0 → writesOf s a ≡ p .cl a .writes
   unfolding lateness
   same-writes isopen e = fun-ext (λ x. inv .tab .mine a isopen .held (omega arith) x)
 
   -- So what is said of a write by the rows holds by the plain table.
-  by-table : (F : ℕ → ℕ → Values → Type 0) → 1 ≤ s .cl a .number → s .cl a .stage ≡ 0 → F (s .bounds .limit) (s .cl a .stage) (written s a)
+  by-table : (F : ℕ → ℕ → Values → Type 0) → 1 ≤ s .cl a .number → s .cl a .stage ≡ 0 → F (s .bounds .limit) (s .cl a .stage) (writesOf s a)
       → F (bounds .limit) (p .cl a .stage) (p .cl a .writes)
   by-table F isopen e h =
       subst (λ (w : Values). F (bounds .limit) (p .cl a .stage) w) (same-writes isopen e)
-      (subst (λ (g : ℕ). F (bounds .limit) g (written s a)) (sym (inv .one a .on-stage))
-      (subst (λ (b : Bounds). F (b .limit) (s .cl a .stage) (written s a)) (inv .same-bounds) h))
+      (subst (λ (g : ℕ). F (bounds .limit) g (writesOf s a)) (sym (inv .one a .on-stage))
+      (subst (λ (b : Bounds). F (b .limit) (s .cl a .stage) (writesOf s a)) (inv .same-bounds) h))
 
-  pub write-refused : (x : ℕ) (v : Value) (r : ℕ) → 1 ≤ s .cl a .number → WriteRefusal (s .bounds .limit) (s .cl a .stage) (written s a) x v (Answered (free s)) r
+  pub write-refused : (x : ℕ) (v : Value) (r : ℕ) → 1 ≤ s .cl a .number → WriteRefusal (s .bounds .limit) (s .cl a .stage) (writesOf s a) x v (Answered (free s)) r
       → WriteRefusal (bounds .limit) (p .cl a .stage) (p .cl a .writes) x v (Answered (free s)) r
   write-refused x v r isopen (for-cell h) = for-cell h
   write-refused x v r isopen (for-length h l) = for-length h l
@@ -304,11 +304,11 @@ module _ {bounds : Bounds} {s : State} {p : Plain} (inv : Inv bounds s p) (a : �
   write-refused x v r isopen (for-rows h n m f) = by-table (λ b g w. WriteRefusal b g w x v (Answered (free s)) noFreeRow) isopen (h .stage) (for-rows h n m f)
 
   -- A write.
-  module _ (x : ℕ) (v : Value) (fits : WriteAnswer (s .bounds .limit) (s .cl a .stage) (written s a) x v) (isopen : 1 ≤ s .cl a .number) where
+  module _ (x : ℕ) (v : Value) (fits : WriteAllowed (s .bounds .limit) (s .cl a .stage) (writesOf s a) x v) (isopen : 1 ≤ s .cl a .number) where
     pub write-good : (dat′ : List DRow) → Written (s .cl a .number) x v (s .dat) dat′ → Good bounds s p (Write a x v) (figured (withData s dat′ (s .cl)))
     unfolding plain onWrite rphase lateness
     write-good dat′ w = (
-      (inv .one a .live isopen, by-table (λ b g w. WriteAnswer b g w x v) isopen (fits .may .stage) fits),
+      (inv .one a .live isopen, by-table (λ b g w. WriteAllowed b g w x v) isopen (fits .may .stage) fits),
       record {
         same-bounds = inv .same-bounds;
         counted = inv .counted;

@@ -111,8 +111,8 @@ abbrev pub cph : State → ℕ → ℕ
 cph s b = cphase (s .cl b .stage)
 
 -- what client a's transaction wrote, by the rows
-abbrev pub written : State → ℕ → Values
-written s a x = find (s .cl a .number) x (s .dat)
+abbrev pub writesOf : State → ℕ → Values
+writesOf s a x = find (s .cl a .number) x (s .dat)
 
 -- ---- searches
 

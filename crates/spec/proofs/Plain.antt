@@ -16,7 +16,7 @@ use Rattle.spec.specs.Answers.{Answer, Answered, Refused, notOpen}
 use Rattle.spec.specs.Calls.{cells}
 use Rattle.spec.specs.Run.{Call, Begin, Read, Write, Advance, Abandon, Trim, Free}
 use Rattle.spec.specs.Table.{Value, unwritten, put, orElse, over, Told}
-use Rattle.spec.specs.Right.{Bounds, valued, ReadRefusal, WriteAnswer, WriteRefusal}
+use Rattle.spec.specs.Right.{Bounds, valued, ReadRefusal, WriteAllowed, WriteRefusal}
 
 -- a commit: its number and what it wrote
 pub record Entry : Type 0 where
@@ -158,7 +158,7 @@ RightRead p a x (Refused r) = p .cl a .live ≡ true → ReadRefusal x (p .cl a 
 
 -- free is the free figure after the call
 abbrev pub RightWrite : ℕ → Plain → ℕ → ℕ → Value → Answer ℕ → ℕ → Type 0
-RightWrite limit p a x v (Answered n) free = (p .cl a .live ≡ true) × WriteAnswer limit (p .cl a .stage) (p .cl a .writes) x v
+RightWrite limit p a x v (Answered n) free = (p .cl a .live ≡ true) × WriteAllowed limit (p .cl a .stage) (p .cl a .writes) x v
 RightWrite limit p a x v (Refused r) free = p .cl a .live ≡ true → WriteRefusal limit (p .cl a .stage) (p .cl a .writes) x v (Answered free) r
 
 abbrev pub RightAbandon : Plain → ℕ → Answer ℕ → Type 0

@@ -29,7 +29,7 @@ use Rattle.spec.specs.Table.{has}
 use Rattle.spec.specs.Right.{valued, Writable, for-cell, for-length, for-stage, for-limit, for-rows}
 use Rattle.spec.proofs.Wellformed.{Wellformed}
 use Rattle.spec.proofs.Model as m
-use Rattle.spec.proofs.Model.{DRow, replace, some?, written}
+use Rattle.spec.proofs.Model.{DRow, replace, some?, writesOf}
 use Rattle.spec.proofs.Took.{no-write, replaces, adds}
 use Rattle.spec.proofs.View.{dataRowOf, clientOf, clientsAs, view, map-join, free-at, limit-at, stage-at, past-number}
 use Rattle.spec.proofs.Searches.{ownValue, own-yes, own-no, own-view, cells-view}
@@ -128,7 +128,7 @@ module _ (i : Image) (k x : ℕ) (v : List ℕ) (z : Wellformed i) (l : length v
     added-figure = rw (free-at more)
 
     -- the cells that the limit is held to, by the table of what the client wrote
-    count-at : (inside : (r : DRow) → In r (view i .dat) → r .cell < cells) → cellsOf (numberOf i k) (i .dataRows) ≡ valued cells (written (view i) k)
+    count-at : (inside : (r : DRow) → In r (view i .dat) → r .cell < cells) → cellsOf (numberOf i k) (i .dataRows) ≡ valued cells (writesOf (view i) k)
     unfolding view clientsAs clientOf
     count-at inside = cells-view (numberOf i k) (i .dataRows) inside
 
@@ -139,16 +139,16 @@ module _ (i : Image) (k x : ℕ) (v : List ℕ) (z : Wellformed i) (l : length v
         → Does i (Write k x v) (stored o k x v i)
     unfolding added more
     stored-does inside (At j) e =
-        let found : written (view i) k x ≡ some (valueOf (getD (i .dataRows) j [])) = find-at ∙ rw e in
+        let found : writesOf (view i) k x ≡ some (valueOf (getD (i .dataRows) j [])) = find-at ∙ rw e in
         does i (Write k x v) (replaced j v i) (replaced-figure j ∙ replaced-view j e)
         (replaces k x v (record { may = may; fewer = λ n. absurd (true≢false (sym (ap has found) ∙ n)) }) isopen (rw found tt))
     stored-does inside Missing e =
-        let new : written (view i) k x ≡ none = find-at ∙ rw e in
-        let n : has (written (view i) k x) ≡ false = ap has new in
+        let new : writesOf (view i) k x ≡ none = find-at ∙ rw e in
+        let n : has (writesOf (view i) k x) ≡ false = ap has new in
         let c = count-at inside in
         does-if i (Write k x v) (leb (i .limit) (cellsOf (numberOf i k) (i .dataRows)))
         (λ f. record { did = no-write k x v cellLimit (λ _. for-limit may n (omega (arith, c, limit-at i, leb-true (i .limit) _ f))) }) (λ f.
-        let fewer : valued cells (written (view i) k) < view i .bounds .limit = omega (arith, c, limit-at i, leb-false (i .limit) _ f) in
+        let fewer : valued cells (writesOf (view i) k) < view i .bounds .limit = omega (arith, c, limit-at i, leb-false (i .limit) _ f) in
         does-if i (Write k x v) (leb (i .rows) (length (i .dataRows)))
         (λ g. record { did = no-write k x v noFreeRow (λ _. for-rows may n fewer (ap (λ (m : ℕ). Answered m) (free-at i ∙ omega (arith, leb-true (i .rows) _ g)))) }) (λ _.
         does i (Write k x v) (givesFree more) (added-figure ∙ added-view)

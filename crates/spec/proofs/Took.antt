@@ -14,9 +14,9 @@ use Rattle.spec.specs.Answers.{Answer, Answered, Refused, notOpen}
 use Rattle.spec.specs.Calls.{cells, top}
 use Rattle.spec.specs.Run.{Call, Begin, Read, Write, Advance, Abandon, Trim, Free}
 use Rattle.spec.specs.Table.{Value, Told}
-use Rattle.spec.specs.Right.{ReadRefusal, WriteAnswer, WriteRefusal}
+use Rattle.spec.specs.Right.{ReadRefusal, WriteAllowed, WriteRefusal}
 use Rattle.spec.proofs.Tickets.{look}
-use Rattle.spec.proofs.Model.{DRow, State, Out, out, written, free, rph, cph, atStage, clearC, put, withClients, begun, lookup, overwritten, added, figured, removed, leave, step-to, takeR, takeC, listR, listC, lookR, lookC, checked, smallest, checkKey, committed, trimmed}
+use Rattle.spec.proofs.Model.{DRow, State, Out, out, writesOf, free, rph, cph, atStage, clearC, put, withClients, begun, lookup, overwritten, added, figured, removed, leave, step-to, takeR, takeC, listR, listC, lookR, lookC, checked, smallest, checkKey, committed, trimmed}
 
 -- the transaction has a data row
 abbrev pub HasRow : ℕ → List DRow → Type 0
@@ -25,15 +25,15 @@ HasRow t d = (r : DRow) × In r d × (r .tag ≡ t)
 pub data Took (s : State) : (q : Call) → Out (Answer (Told q)) → Type 0 where
   no-begin : (a r : ℕ) → r ≢ notOpen → Took s (Begin a) (out s (Refused r))
   no-read : (a x r : ℕ) → (1 ≤ s .cl a .number → ReadRefusal x (s .cl a .stage) r) → Took s (Read a x) (out s (Refused r))
-  no-write : (a x : ℕ) (v : Value) (r : ℕ) → (1 ≤ s .cl a .number → WriteRefusal (s .bounds .limit) (s .cl a .stage) (written s a) x v (Answered (free s)) r)
+  no-write : (a x : ℕ) (v : Value) (r : ℕ) → (1 ≤ s .cl a .number → WriteRefusal (s .bounds .limit) (s .cl a .stage) (writesOf s a) x v (Answered (free s)) r)
       → Took s (Write a x v) (out s (Refused r))
   no-advance : (a r : ℕ) → s .cl a .number ≡ 0 → Took s (Advance a) (out s (Refused r))
   no-abandon : (a r : ℕ) → (r ≡ notOpen → s .cl a .number ≡ 0) → Took s (Abandon a) (out s (Refused r))
   begins : (a : ℕ) → a < clients → s .cl a .number ≡ 0 → s .W < top → Took s (Begin a) (begun s a)
   reads : (a x : ℕ) → x < cells → 1 ≤ s .cl a .number → s .cl a .stage ≤ 11 → Took s (Read a x) (out s (Answered (lookup s a x)))
-  replaces : (a x : ℕ) (v : Value) → WriteAnswer (s .bounds .limit) (s .cl a .stage) (written s a) x v → 1 ≤ s .cl a .number → IsSome (written s a x)
+  replaces : (a x : ℕ) (v : Value) → WriteAllowed (s .bounds .limit) (s .cl a .stage) (writesOf s a) x v → 1 ≤ s .cl a .number → IsSome (writesOf s a x)
       → Took s (Write a x v) (overwritten s a x v)
-  adds : (a x : ℕ) (v : Value) → WriteAnswer (s .bounds .limit) (s .cl a .stage) (written s a) x v → 1 ≤ s .cl a .number → written s a x ≡ none
+  adds : (a x : ℕ) (v : Value) → WriteAllowed (s .bounds .limit) (s .cl a .stage) (writesOf s a) x v → 1 ≤ s .cl a .number → writesOf s a x ≡ none
       → Took s (Write a x v) (added s a x v)
   at0 : (a : ℕ) → a < clients → 1 ≤ s .cl a .number → s .cl a .stage ≡ 0 → HasRow (s .cl a .number) (s .dat) → Took s (Advance a) (step-to s a 1)
   ends0 : (a : ℕ) → a < clients → 1 ≤ s .cl a .number → s .cl a .stage ≡ 0 → (HasRow (s .cl a .number) (s .dat) → ⊥)

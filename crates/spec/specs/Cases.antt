@@ -29,7 +29,7 @@ stages k g (suc n) =
     }
     ∷ stages k (g + 1) n
 
--- n writes of client k, to the cells from x on, that answer a free figure falling from f - 1
+-- n writes of client k to the cells from x on, which it has not written; f rows are free before them
 abbrev pub newCells : ℕ → ℕ → ℕ → ℕ → List Exchange
 newCells k x f zero = []
 newCells k x f (suc n) =

@@ -118,8 +118,8 @@ pub record Writable (g x : ℕ) (v : Value) : Type 0 where
   pub bytes : length v ≡ 16
   pub stage : g ≡ 0
 
--- answered: a new cell only with fewer cells written than the limit, which is 8 where set-up was given 0 (document 02, 9)
-pub record WriteAnswer (limit g : ℕ) (w : Values) (x : ℕ) (v : Value) : Type 0 where
+-- answered only so: a new cell with fewer cells written than the limit, which is 8 where set-up was given 0 (document 02, 9)
+pub record WriteAllowed (limit g : ℕ) (w : Values) (x : ℕ) (v : Value) : Type 0 where
   pub may : Writable g x v
   pub fewer : has (w x) ≡ false → valued cells w < limit
 
@@ -133,7 +133,7 @@ pub data WriteRefusal (limit g : ℕ) (w : Values) (x : ℕ) (v : Value) (next :
   for-rows : Writable g x v → has (w x) ≡ false → valued cells w < limit → next ≡ Answered 0 → WriteRefusal limit g w x v next noFreeRow
 
 abbrev pub RightWrite : ℕ → Table → ℕ → ℕ → Value → Answer ℕ → Answer ℕ → Type 0
-RightWrite limit t k x v (Answered f) next = (o : Open) × (t .clients k ≡ some o) × WriteAnswer limit (o .stage) (o .writes) x v
+RightWrite limit t k x v (Answered f) next = (o : Open) × (t .clients k ≡ some o) × WriteAllowed limit (o .stage) (o .writes) x v
 RightWrite limit t k x v (Refused n) next = (o : Open) → t .clients k ≡ some o → WriteRefusal limit (o .stage) (o .writes) x v next n
 
 -- ---- the other calls

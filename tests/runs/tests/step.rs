@@ -21,7 +21,7 @@ fn due(input: &[u8]) -> Vec<u8> {
 }
 
 /// Every script of a folder, by its files' extension, in the order of their names: its name, its text and the output stored beside it.
-fn stored(folder: &str, extension: &str) -> Vec<(String, Vec<u8>, Vec<u8>)> {
+fn stored_scripts(folder: &str, extension: &str) -> Vec<(String, Vec<u8>, Vec<u8>)> {
     let folder = fs::read_dir(Path::new(env!("CARGO_MANIFEST_DIR")).join(folder)).unwrap();
     let mut paths: Vec<_> = folder.map(|entry| entry.unwrap().path()).filter(|path| path.extension().is_some_and(|e| e == extension)).collect();
     paths.sort();
@@ -32,7 +32,7 @@ fn stored(folder: &str, extension: &str) -> Vec<(String, Vec<u8>, Vec<u8>)> {
 
 /// Every script of a folder is held to the model; how many there are, and the names of those that print something else than what is stored.
 fn scripts(folder: &str, extension: &str) -> (usize, Vec<String>) {
-    let all = stored(folder, extension);
+    let all = stored_scripts(folder, extension);
     let other = all.iter().filter(|(name, script, due)| held(name, script) != *due);
     (all.len(), other.map(|(name, _, _)| name.clone()).collect())
 }
@@ -77,10 +77,10 @@ fn as_before(name: &str, script: &[u8]) -> Vec<u8> {
     before
 }
 
-/// The tournament desk's runs, stored as they were, with the outputs of before. With 0 left in, two of the three print something else now.
+/// The tournament desk's runs, stored with 0 in their set-ups and with the outputs of before. With 0 left in, two of the three print something else now.
 #[test]
 fn stored_runs_of_the_tournament_desk() {
-    let runs = stored("../tournament", "txt");
+    let runs = stored_scripts("../tournament", "txt");
     assert_eq!(runs.len(), 3);
     for (name, script, before) in &runs {
         assert!(as_before(name, script) == *before, "{name}: the stored output");
@@ -92,9 +92,9 @@ fn stored_runs_of_the_tournament_desk() {
 #[test]
 fn scripts_of_before_the_smaller_limit() {
     for (folder, extension) in [("../model/tests/house", "in"), ("../model/tests/tickets", "in")] {
-        stored(folder, extension).iter().for_each(|(name, script, _)| drop(as_before(name, script)));
+        stored_scripts(folder, extension).iter().for_each(|(name, script, _)| drop(as_before(name, script)));
     }
-    let examples = stored("../../examples", "txt").into_iter().filter(|(name, script, due)| as_before(name, script) != *due);
+    let examples = stored_scripts("../../examples", "txt").into_iter().filter(|(name, script, due)| as_before(name, script) != *due);
     assert_eq!(examples.map(|(name, _, _)| name).collect::<Vec<_>>(), ["limit"]);
     let mut other = 0;
     for profile in profiles(grammar_before_9()) {
