@@ -3,4 +3,10 @@ pub mod Between
 pub mod Repeats
 pub mod Enquiries
 pub mod Limits
+pub mod After
+pub mod Drain
+pub mod Ticks
+pub mod Turns
+pub mod Waits
+pub mod Nobody
 pub mod Theorem

@@ -80,14 +80,14 @@ module _ {bounds : Bounds} {w : ℕ} {i : Image} {p : Plain} (g : Good bounds w 
 -- ---- one call
 
 -- what a call on the image tells
-abbrev told-by : (q : Call) → Image → Answer (Told q)
+abbrev pub told-by : (q : Call) → Image → Answer (Told q)
 told-by q i = told q (perform q i .image .dataRows) (perform q i .answer)
 
 module _ {bounds : Bounds} {w : ℕ} {i : Image} {p : Plain} (g : Good bounds w i p) (q : Call) where
-  took : Took (view i) q (seenAs q (perform q i))
+  pub took : Took (view i) q (seenAs q (perform q i))
   took = perform-does q i (ready g) (omega (arith, within g, W-at i)) .did
 
-  good-next : Good bounds (numberAfter q (told-by q i) w) (perform q i .image) (plain p q (told-by q i))
+  pub good-next : Good bounds (numberAfter q (told-by q i) w) (perform q i .image) (plain p q (told-by q i))
   good-next = record {
     fine = perform-kept q i (g .fine) .fine;
     inv = good (g .inv) took .1;
@@ -102,7 +102,7 @@ module _ {bounds : Bounds} {w : ℕ} {i : Image} {p : Plain} (g : Good bounds w 
   right-now : Right bounds w (erase p) q (told-by q i) (Answered (m.free (view (perform q i .image))))
   right-now = right bounds w (view i .W) (g .numbers .issued) p q (told-by q i) (m.free (view (perform q i .image))) right-own
 
-  fed : tell q (told-by q i) (erase p) ≡ erase (plain p q (told-by q i))
+  pub fed : tell q (told-by q i) (erase p) ≡ erase (plain p q (told-by q i))
   fed = feeds bounds (view i .W) p q (told-by q i) (m.free (view (perform q i .image))) right-own
 
 free-answer : (i : Image) → perform Free i .answer ≡ Answered (m.free (view i))
@@ -118,12 +118,12 @@ module _ (i : Image) (h : Wellformed i) (q : Call) where
   next-fine : Wellformed next
   next-fine = perform-kept q i h .fine
 
-  same-told : tells q (whole i) ≡ told-by q i
+  pub same-told : tells q (whole i) ≡ told-by q i
   same-told =
       ap (λ (a : After (Gives q)). told q (rowsIn 24 (a .store .used) (a .dataBytes)) (a .answer)) (crossed i h q)
       ∙ ap (λ (ds : List Row). told q ds (perform q i .answer)) (used-rows next next-fine)
 
-  same-memory : memoryOf (takes q (whole i)) ≡ whole next
+  pub same-memory : memoryOf (takes q (whole i)) ≡ whole next
   same-memory = ap memoryOf (crossed i h q)
 
   free-next : takes Free (memoryOf (takes q (whole i))) .answer ≡ Answered (m.free (view next))
@@ -150,7 +150,7 @@ start-numbers : (b : Bounds) (w : ℕ) → w ≤ top → Numbered 0 (m.fresh b w
 unfolding m.fresh
 start-numbers b w k = record { issued = omega arith; within = k }
 
-start-good : (n l w : ℕ) → 1 ≤ n → n ≤ 1024 → w ≤ top → Good (record { rows = n; limit = l }) 0 (empty n l w) own.empty
+pub start-good : (n l w : ℕ) → 1 ≤ n → n ≤ 1024 → w ≤ top → Good (record { rows = n; limit = l }) 0 (empty n l w) own.empty
 start-good n l w h g k =
     let b : Bounds = record { rows = n; limit = l } in
     record {
