@@ -17,7 +17,8 @@ use Rattle.spec.specs.Run.{Call, Begin, Read, Write, Advance, Abandon, Trim, Fr
 use Rattle.spec.specs.Table.{Value, Values, has, Commit, Open, Table, blank, orElse, commits, reaches, Told, tell}
 use Rattle.spec.specs.Right.{Bounds, lastNumber, RightProgress, Right, tells, RightRun}
 use Rattle.spec.proofs.Lists.{in-nil, in-left, in-right, append-case, in-one}
-use Rattle.history.specs.Demand.{tableAfter, Rising, Valued}
+use Rattle.history.specs.Afterwards.{tableAfter}
+use Rattle.history.specs.Demand.{Rising, Valued}
 
 -- a claim on a choice, by its branches
 pub either : (P : Table → Type 0) (b : Bool) {s t : Table} → (b ≡ true → P s) → (b ≡ false → P t) → P (if b then s else t)

@@ -3,12 +3,12 @@
 -- reached with writes alone, Waiting and Conflict come at later stages, Done at stage 13 too, and an open client is not refused. The number that
 -- Done gives is the last of that part of the book: what Begin answered.
 -- Assumes nothing.
-use Prim.Native.Nat.{ℕ, _+_, _≤_}
+use Prim.Native.Nat.{ℕ, _≤_}
 use mathlib.Core.Path.{_≡_, refl, sym, ap, _∙_, subst}
 use mathlib.Core.Logic.{⊎-elim}
-use mathlib.Core.Bool.{true, false≢true}
-use mathlib.Core.List.{List, [], _∷_, _++_}
-use mathlib.Core.Option.{Option, none, some}
+use mathlib.Core.Bool.{false≢true}
+use mathlib.Core.List.{List, [], _∷_}
+use mathlib.Core.Option.{some}
 use native.Mathlib.Omega.{arith}
 use lib.ListN.{length, take, length-append}
 use lib.Seq.{take-length, take-append-le}
@@ -17,7 +17,7 @@ use Rattle.spec.specs.declared.Progress.{Progress}
 use Rattle.spec.specs.declared.Progress.the-variants.{Stage, Waiting, Conflict, Done}
 use Rattle.spec.specs.Answers.{Answer, Answered, Refused}
 use Rattle.spec.specs.Run.{Call, Begin, Advance, Memory}
-use Rattle.spec.specs.Table.{has, Commit, Open, Table, opens, tell}
+use Rattle.spec.specs.Table.{Commit, Open, Table, opens, tell}
 use Rattle.spec.specs.Right.{Bounds, lastNumber, Wrote, RightBegin, RightProgress, RightAdvance, RightRun}
 use Rattle.spec.proofs.Lists.{none-some, same-some}
 use Rattle.history.specs.Demand.{Nowhere, Never, Enquiry}

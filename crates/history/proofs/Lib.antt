@@ -3,10 +3,12 @@ pub mod Between
 pub mod Repeats
 pub mod Enquiries
 pub mod Limits
-pub mod After
+pub mod Effects
+pub mod Changes
+pub mod Grown
+pub mod AfterRounds
 pub mod Drain
-pub mod Ticks
-pub mod Turns
-pub mod Waits
-pub mod Nobody
+pub mod Queues
+pub mod Ending
+pub mod Rounds
 pub mod Theorem

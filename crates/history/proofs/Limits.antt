@@ -19,7 +19,8 @@ use Rattle.spec.specs.Table.{Value, Values, has, Open, Table, blank, unwritten,
 use Rattle.spec.specs.Right.{Bounds, WriteAllowed, Right, RightRun}
 use Rattle.spec.proofs.Lists.{none-some, same-some}
 use Rattle.spec.proofs.Counts.{valued-none, valued-same, valued-more}
-use Rattle.history.specs.Demand.{tableAfter, Within, Capped}
+use Rattle.history.specs.Afterwards.{tableAfter}
+use Rattle.history.specs.Demand.{Within, Capped}
 use Rattle.history.proofs.Book.{either, along}
 use Rattle.history.proofs.Between.{put-same, put-other}
 

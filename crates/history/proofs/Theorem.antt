@@ -1,6 +1,6 @@
 -- Demand 3 holds for every set-up, refused or not, and every list of calls: crate spec has that every answer is right, with which numbers calls are
 -- refused, and whether the store is fit; what is said of the book, the values, repeated reads, enquiries and the cell limit follows from the
--- answers being right.
+-- answers being right; that nobody waits for ever is shown of the queues themselves (Rounds).
 -- w, the first W, is a number of 32 bits by its type.
 -- Assumes nothing.
 use Prim.Native.Nat.{ℕ, _≤_}
@@ -16,6 +16,7 @@ use Rattle.history.proofs.Book.{rising-run, valued-run}
 use Rattle.history.proofs.Repeats.{steady-run, unbroken-run}
 use Rattle.history.proofs.Enquiries.{enquiry-run}
 use Rattle.history.proofs.Limits.{capped-run}
+use Rattle.history.proofs.Rounds.{nobody-waits, whoever-calls, rounds-exist}
 
 pub theorem : (d c : List ℕ) (w l : ℕ) → w ≤ 4294967295 → (qs : List Call) → Demand3 d c w l qs
 theorem d c w l h qs =
@@ -29,6 +30,9 @@ theorem d c w l h qs =
       unbroken = unbroken-run qs n 0 blank (memoryOf (setUp d c w l)) r;
       enquiry = enquiry-run qs n 0 blank (memoryOf (setUp d c w l)) r;
       capped = capped-run qs n 0 (memoryOf (setUp d c w l)) r;
+      waits = nobody-waits d c w l h qs;
+      anyCalls = whoever-calls d c w l h qs;
+      rounds = rounds-exist d c w l h qs;
       listed = all-listed qs (memoryOf (setUp d c w l));
       unfit = λ e. all-unfit d c w l e qs;
       fit = λ e. all-fit d c w l e qs;

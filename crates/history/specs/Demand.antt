@@ -15,20 +15,10 @@ use Rattle.spec.specs.Answers.{Answered}
 use Rattle.spec.specs.Calls.{cells}
 use Rattle.spec.specs.Bytes.{limitOf, accepts, setUp}
 use Rattle.spec.specs.Run.{Call, Begin, Read, Write, Advance, Abandon, Trim, Free, Memory, memoryOf, takes}
-use Rattle.spec.specs.Table.{Value, Values, has, Commit, Open, Table, blank, Told, tell}
+use Rattle.spec.specs.Table.{Value, Values, has, Commit, Open, Table, blank, Told}
 use Rattle.spec.specs.Right.{boundsOf, valued, tells, RightRun, AllListed, AllUnfit, AllFit}
-
--- ---- what a list of calls leaves
-
--- the record and the buffers
-abbrev pub afterRun : List Call → Memory → Memory
-afterRun [] m = m
-afterRun (q ∷ qs) m = afterRun qs (memoryOf (takes q m))
-
--- the plain table, told the calls and their answers
-abbrev pub tableAfter : List Call → Memory → Table → Table
-tableAfter [] m t = t
-tableAfter (q ∷ qs) m t = tableAfter qs (memoryOf (takes q m)) (tell q (tells q m) t)
+use Rattle.history.specs.Afterwards.{afterRun, tableAfter}
+use Rattle.history.specs.Rounds.{NobodyWaits, WhoeverCalls, RoundsExist}
 
 -- ---- the book
 
@@ -152,6 +142,13 @@ pub record Demand3 (d c : List ℕ) (w l : ℕ) (qs : List Call) : Type 0 where
   -- document 02, 9: "one runaway box can use many rows. A cell limit of 0 at set-up now stands for 8": a transaction has written at most as many
   -- cells as the limit says, whatever was called
   pub capped : Capped (limitOf l) (tableAfter qs (memoryOf (setUp d c w l)) blank)
+  -- document 02, 8: "a transaction that has entered the request queue and isn't abandoned is closed, Done or Conflict, within 4 × n × n + 32
+  -- rounds", where "only clients below n are named"
+  pub waits : NobodyWaits (memoryOf (setUp d c w l)) qs
+  -- "4,128 for 32", "whatever else is begun, written, abandoned or trimmed meanwhile": whatever the calls are
+  pub anyCalls : WhoeverCalls (memoryOf (setUp d c w l)) qs
+  -- and there are rounds, after every list of calls
+  pub rounds : RoundsExist (memoryOf (setUp d c w l)) qs
   -- "Refusal by operation": a refused call gets one of the numbers listed for it; 11 is in no list: it "never occurs any more" (document 02, 2)
   pub listed : AllListed (memoryOf (setUp d c w l)) qs
   -- "after a refused one every call gets 2"

@@ -1,2 +1,3 @@
-pub mod Demand
+pub mod Afterwards
 pub mod Rounds
+pub mod Demand

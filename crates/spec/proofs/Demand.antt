@@ -186,11 +186,14 @@ refused-told : (q : Call) → tell q (Refused unfit) blank ≡ blank
 unfolding tell
 refused-told q = refl
 
+pub refused-tells : (d c : List ℕ) (q : Call) → tells q (unused d c) ≡ Refused unfit
+refused-tells d c q = ap (λ (a : After (Gives q)). told q (rowsIn 24 (a .store .used) (a .dataBytes)) (a .answer)) (refused-call d c q)
+
 refused-all : (n : Bounds) (w : ℕ) (d c : List ℕ) (qs : List Call) → RightRun n w blank (unused d c) qs
 refused-all n w d c [] = tt
 refused-all n w d c (q ∷ qs) =
     let e = refused-call d c q in
-    let f : tells q (unused d c) ≡ Refused unfit = ap (λ (a : After (Gives q)). told q (rowsIn 24 (a .store .used) (a .dataBytes)) (a .answer)) e in (
+    let f = refused-tells d c q in (
       subst (λ (x : Answer (Told q)). Right n w blank q x (takes Free (memoryOf (takes q (unused d c))) .answer)) (sym f) (refused-right n w q _),
       subst (λ (x : Answer (Told q)). RightRun n (numberAfter q x w) (tell q x blank) (memoryOf (takes q (unused d c))) qs) (sym f)
           (subst (λ (x : Memory). RightRun n (numberAfter q (Refused unfit) w) (tell q (Refused unfit) blank) x qs) (sym (ap memoryOf e))

@@ -7,6 +7,7 @@ pub mod Refusals
 pub mod Bridge
 pub mod Lists
 pub mod Counts
+pub mod Sums
 pub mod Tickets
 pub mod Model
 pub mod Plain

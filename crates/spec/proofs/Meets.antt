@@ -3,11 +3,12 @@
 -- sum or lowers it.
 -- Assumes nothing.
 use Prim.Native.Nat.{ℕ, zero, suc, _+_, _-_, _≤_, _<_}
-use mathlib.Core.Path.{_≡_, refl, sym, ap, _∙_}
-use mathlib.Core.Logic.{_≢_, ite, if-pos, if-neg, by-cases}
+use mathlib.Core.Path.{_≡_, refl, ap, _∙_}
+use mathlib.Core.Logic.{ite, if-pos, if-neg, by-cases}
 use native.Mathlib.Decide.{ℕ-discrete, decLe}
 use native.Mathlib.Omega.{arith}
 use Rattle.spec.proofs.Lists.{ite-elim, option-case}
+use Rattle.spec.proofs.Sums.{sum, sum-put, sum-has}
 use Rattle.spec.proofs.Tickets.{look, count}
 use Rattle.spec.specs.Right.{Bounds}
 use Rattle.spec.proofs.Model.{newcomer, Client, closed, put, same, clearC, clearBoth, State, Out, rph, cph, smallest, checkKey, atStage, withRequest, withCommit, begun, overwritten, added, trimmed, takeR, takeC, listR, listC, lookR, lookC, checked, committed, fresh}
@@ -22,28 +23,6 @@ use Rattle.sets.specs.Set.{clients}
 -- 1 for an open client at a stage up to t
 pub early : ℕ → Client → ℕ
 early t c = ite (decLe 1 (c .number)) (ite (decLe (c .stage) t) 1 0) 0
-
-pub sum : ℕ → (ℕ → ℕ) → ℕ
-sum zero f = 0
-sum (suc n) f = f n + sum n f
-
-sum-same : (n : ℕ) (f g : ℕ → ℕ) → ((b : ℕ) → b < n → f b ≡ g b) → sum n f ≡ sum n g
-unfolding sum
-sum-same zero f g h = refl
-sum-same (suc n) f g h = omega (arith, h n (omega arith), sum-same n f g (λ b l. h b (omega arith)))
-
-sum-put : (n a : ℕ) (f g : ℕ → ℕ) → a < n → ((b : ℕ) → b ≢ a → f b ≡ g b) → sum n f + g a ≡ sum n g + f a
-unfolding sum
-sum-put zero a f g h o = absurd (omega arith)
-sum-put (suc n) a f g h o =
-    by-cases (ℕ-discrete a n)
-    (λ e. omega (arith, ap f e, ap g e, sum-same n f g (λ b l. o b (λ q. omega arith))))
-    (λ e. omega (arith, o n (λ q. e (sym q)), sum-put n a f g (omega (arith, e)) o))
-
-sum-has : (n a : ℕ) (f : ℕ → ℕ) → a < n → f a ≤ sum n f
-unfolding sum
-sum-has zero a f h = absurd (omega arith)
-sum-has (suc n) a f h = by-cases (ℕ-discrete a n) (λ e. omega (arith, ap f e)) (λ e. omega (arith, sum-has n a f (omega (arith, e))))
 
 early-one : (t : ℕ) (c : Client) → 1 ≤ c .number → c .stage ≤ t → early t c ≡ 1
 unfolding early

@@ -4,11 +4,12 @@
 use Prim.Native.Nat.{ℕ, _-_, _≤_, _<_}
 use mathlib.Core.Path.{_≡_, refl, sym, _∙_, ap, subst, fun-ext}
 use mathlib.Core.Logic.{_≢_, if-pos, if-neg, by-cases}
+use mathlib.Core.Bool.{true}
 use mathlib.Core.List.{List, List·Memᴰ as In}
 use mathlib.Core.Option.{IsSome}
 use native.Mathlib.Decide.{ℕ-discrete}
 use native.Mathlib.Omega.{arith}
-use Rattle.spec.proofs.Tickets.{Others, clear-other}
+use Rattle.spec.proofs.Tickets.{Others, clear-other, clear-fewer}
 use Rattle.spec.specs.Right.{Bounds}
 use Rattle.spec.proofs.Model.{DRow, Client, State, find, rphase, cphase, put, same, clearC, clearBoth}
 use Rattle.spec.proofs.Plain.{restaged, Entry, PClient, Plain, NoClash, setP}
@@ -45,15 +46,47 @@ pub record Tame (a : ℕ) (f : Client → Client) : Type 0 where
   pub commit : (c : Client) → f c .commit ≡ c .commit
   pub rwait : (c : Client) (b : ℕ) → b ≢ a → f c .rwait b ≡ c .rwait b
   pub cwait : (c : Client) (b : ℕ) → b ≢ a → f c .cwait b ≡ c .cwait b
+  pub fewer-R : (c : Client) (b : ℕ) → f c .rwait b ≡ true → c .rwait b ≡ true
+  pub fewer-C : (c : Client) (b : ℕ) → f c .cwait b ≡ true → c .cwait b ≡ true
 
 pub tame-same : (a : ℕ) → Tame a same
-tame-same a = record { number = λ c. refl; stage = λ c. refl; snapshot = λ c. refl; request = λ c. refl; commit = λ c. refl; rwait = λ c b n. refl; cwait = λ c b n. refl }
+tame-same a = record {
+  number = λ c. refl;
+  stage = λ c. refl;
+  snapshot = λ c. refl;
+  request = λ c. refl;
+  commit = λ c. refl;
+  rwait = λ c b n. refl;
+  cwait = λ c b n. refl;
+  fewer-R = λ c b e. e;
+  fewer-C = λ c b e. e;
+}
 
 pub tame-C : (a : ℕ) → Tame a (clearC a)
-tame-C a = record { number = λ c. refl; stage = λ c. refl; snapshot = λ c. refl; request = λ c. refl; commit = λ c. refl; rwait = λ c b n. refl; cwait = λ c b n. clear-other a (c .cwait) b n }
+tame-C a = record {
+  number = λ c. refl;
+  stage = λ c. refl;
+  snapshot = λ c. refl;
+  request = λ c. refl;
+  commit = λ c. refl;
+  rwait = λ c b n. refl;
+  cwait = λ c b n. clear-other a (c .cwait) b n;
+  fewer-R = λ c b e. e;
+  fewer-C = λ c b e. clear-fewer a (c .cwait) b e;
+}
 
 pub tame-both : (a : ℕ) → Tame a (clearBoth a)
-tame-both a = record { number = λ c. refl; stage = λ c. refl; snapshot = λ c. refl; request = λ c. refl; commit = λ c. refl; rwait = λ c b n. clear-other a (c .rwait) b n; cwait = λ c b n. clear-other a (c .cwait) b n }
+tame-both a = record {
+  number = λ c. refl;
+  stage = λ c. refl;
+  snapshot = λ c. refl;
+  request = λ c. refl;
+  commit = λ c. refl;
+  rwait = λ c b n. clear-other a (c .rwait) b n;
+  cwait = λ c b n. clear-other a (c .cwait) b n;
+  fewer-R = λ c b e. clear-fewer a (c .rwait) b e;
+  fewer-C = λ c b e. clear-fewer a (c .cwait) b e;
+}
 
 module _ (a : ℕ) (c : Client) (f : Client → Client) (tame : Tame a f) (cl : ℕ → Client) where
   -- A field of another client.

@@ -8,10 +8,11 @@
 use Prim.Native.Nat.{ℕ, zero, suc, _+_, _≤_, _<_}
 use mathlib.Core.Path.{_≡_, refl, sym, _∙_, ap, subst}
 use mathlib.Core.Logic.{_≢_, ite, if-pos, if-neg, by-cases}
-use mathlib.Core.Bool.{Bool, true, false}
+use mathlib.Core.Bool.{Bool, true, false, false≢true}
 use native.Mathlib.Decide.{ℕ-discrete, decLe, decLt}
 use native.Mathlib.Omega.{arith}
 use Rattle.sets.specs.Set.{clients}
+use Rattle.spec.proofs.Lists.{ite-elim}
 
 -- The waiting list that client a makes: every other client in the queue that concerns it.
 unfoldable pub listing : (ℕ → ℕ) → {P : ℕ → Type 0} → ((b : ℕ) → Dec (P b)) → ℕ → ℕ → Bool
@@ -21,6 +22,20 @@ pub listing-has : (ph : ℕ → ℕ) {P : ℕ → Type 0} (rel? : (b : ℕ) → 
     → listing ph rel? a b ≡ true
 unfolding listing
 listing-has ph rel? a b h n q p = if-pos (decLt b clients) h _ _ ∙ if-neg (ℕ-discrete b a) n _ _ ∙ if-pos (decLe 1 (ph b)) q _ _ ∙ if-pos (rel? b) p _ _
+
+-- Only others in the queue are on it.
+pub listing-only : (ph : ℕ → ℕ) {P : ℕ → Type 0} (rel? : (b : ℕ) → Dec (P b)) (a b : ℕ) → listing ph rel? a b ≡ true → (1 ≤ ph b) × (b ≢ a)
+unfolding listing
+listing-only ph rel? a b e =
+    ite-elim Only (decLt b clients)
+    (λ _. ite-elim Only (ℕ-discrete b a) nobody (λ n. ite-elim Only (decLe 1 (ph b)) (λ h _. (h, n)) nobody))
+    nobody e
+  where
+    Only : Bool → Type 0
+    Only x = x ≡ true → (1 ≤ ph b) × (b ≢ a)
+
+    nobody : {X : Type 0} → X → Only false
+    nobody _ z = absurd (false≢true z)
 
 -- A look by client a: those that are gone and those with a larger noted number are struck.
 unfoldable pub look : (ℕ → ℕ) → (ℕ → ℕ) → ℕ → (ℕ → Bool) → ℕ → Bool
@@ -37,6 +52,28 @@ look-keeps ph num a w b h n = if-pos (decLe 1 (ph b)) h _ _ ∙ go (decLe 3 (ph 
     go (yes p) = inner
     go (no p) = refl
 
+pub look-larger : (ph num : ℕ → ℕ) (a : ℕ) (w : ℕ → Bool) (b : ℕ) → 3 ≤ ph b → num a < num b → look ph num a w b ≡ false
+unfolding look
+look-larger ph num a w b h n = if-pos (decLe 1 (ph b)) (omega arith) _ _ ∙ if-pos (decLe 3 (ph b)) h _ _ ∙ if-pos (decLt (num a) (num b)) n _ _
+
+-- Nobody comes in by a look.
+pub look-fewer : (ph num : ℕ → ℕ) (a : ℕ) (w : ℕ → Bool) (b : ℕ) → look ph num a w b ≡ true → w b ≡ true
+unfolding look
+look-fewer ph num a w b e =
+    ite-elim Was (decLe 1 (ph b))
+    (λ _. ite-elim Was (decLe 3 (ph b)) (λ _. ite-elim Was (decLt (num a) (num b)) struck (λ _ z. z)) (λ _ z. z))
+    struck e
+  where
+    Was : Bool → Type 0
+    Was x = x ≡ true → w b ≡ true
+
+    struck : {X : Type 0} → X → Was false
+    struck _ z = absurd (false≢true z)
+
+-- Who has noted a larger number is struck.
+pub look-strikes : (ph num : ℕ → ℕ) (a : ℕ) (w : ℕ → Bool) (b : ℕ) → (w b ≡ true → (3 ≤ ph b) × (num a < num b)) → look ph num a w b ≡ true → ⊥
+look-strikes ph num a w b h e = let k = h (look-fewer ph num a w b e) in false≢true (sym (look-larger ph num a w b (k .0) (k .1)) ∙ e)
+
 -- Client a's bit is cleared.
 unfoldable pub clear : ℕ → (ℕ → Bool) → ℕ → Bool
 clear a w b = ite (ℕ-discrete b a) false (w b)
@@ -45,10 +82,22 @@ pub clear-other : (a : ℕ) (w : ℕ → Bool) (b : ℕ) → b ≢ a → clear a
 unfolding clear
 clear-other a w b n = if-neg (ℕ-discrete b a) n _ _
 
+pub clear-own : (a : ℕ) (w : ℕ → Bool) → clear a w a ≡ true → ⊥
+unfolding clear
+clear-own a w e = false≢true (sym (if-pos (ℕ-discrete a a) refl _ _) ∙ e)
+
+pub clear-fewer : (a : ℕ) (w : ℕ → Bool) (b : ℕ) → clear a w b ≡ true → w b ≡ true
+unfolding clear
+clear-fewer a w b e = by-cases (ℕ-discrete b a) (λ p. absurd (clear-own a w (ap (clear a w) (sym p) ∙ e))) (λ n. sym (clear-other a w b n) ∙ e)
+
 -- How many of the first n clients are on a list.
 unfoldable pub bit : Bool → ℕ
 bit true = 1
 bit false = 0
+
+bit-false : bit false ≡ 0
+unfolding bit
+bit-false = refl
 
 unfoldable pub count : ℕ → (ℕ → Bool) → ℕ
 count zero w = 0
@@ -64,6 +113,15 @@ count-none (suc n) w e b h t =
   where
     none1 : 1 + count n w ≡ 0 → ⊥
     none1 e = omega arith
+
+pub count-zero : (n : ℕ) (w : ℕ → Bool) → ((b : ℕ) → w b ≡ true → ⊥) → count n w ≡ 0
+unfolding count
+count-zero zero w h = refl
+count-zero (suc n) w h = omega (arith, count-zero n w h, absent (w n) (h n))
+  where
+    absent : (x : Bool) → (x ≡ true → ⊥) → bit x ≡ 0
+    absent true k = absurd (k refl)
+    absent false k = bit-false
 
 pub record Queue (ph num : ℕ → ℕ) (list : ℕ → ℕ → Bool) (ctr : ℕ) (Rel : ℕ → ℕ → Type 0) : Type 0 where
   pub bound : (a : ℕ) → 2 ≤ ph a → num a ≤ ctr

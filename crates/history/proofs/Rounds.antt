@@ -1,0 +1,237 @@
+-- Nobody waits for ever (specs/Rounds), on the record and the buffers. There calls do what they do on images, and the plain table has the store's
+-- stages; so rounds are rounds on images (`rounds-on`), where a transaction is over in time (`Ending`). After a refused set-up nobody is open.
+-- Assumes nothing.
+use Prim.Native.Nat.{ℕ, zero, suc, _-_, _/_, _≤_, _<_}
+use mathlib.Core.Path.{_≡_, refl, sym, _∙_, ap, subst}
+use mathlib.Core.Logic.{_≢_, inl, inr, by-cases}
+use mathlib.Core.Bool.{Bool, true, false, false≢true}
+use mathlib.Core.List.{List, [], _∷_, _++_, flatten}
+use mathlib.Core.Option.{none, some}
+use native.Mathlib.Decide.{ℕ-discrete}
+use native.Mathlib.Omega.{arith}
+use lib.ListN.{length}
+use Rattle.sets.specs.Choice.{if_then_else_}
+use Rattle.sets.specs.Set.{clients}
+use Rattle.spec.specs.Answers.{Answer}
+use Rattle.spec.specs.Image.{Image, empty}
+use Rattle.spec.specs.Bytes.{limitOf, accepts, setUp}
+use Rattle.spec.specs.Run.{Call, Advance, Memory, memoryOf, takes}
+use Rattle.spec.specs.Table.{Open, Table, blank, Told, tell}
+use Rattle.spec.specs.Right.{Bounds, tells}
+use Rattle.spec.proofs.Lists.{none-some, same-some}
+use Rattle.spec.proofs.Ends.{accepted}
+use Rattle.spec.proofs.Bridge.{whole, set-up-whole, unused, refused-memory, refused-call}
+use Rattle.spec.proofs.Bridge as bridge
+use Rattle.spec.proofs.Model as m
+use Rattle.spec.proofs.Model.{State}
+use Rattle.spec.proofs.Plain as own
+use Rattle.spec.proofs.Walk.{empty-view}
+use Rattle.spec.proofs.Erase.{erase, erase-empty, clientOf, openOf}
+use Rattle.spec.proofs.Demand.{told-by, same-told, same-memory, fed, start-good, refused-tells}
+use Rattle.history.specs.Afterwards.{afterRun, tableAfter}
+use Rattle.history.specs.Rounds.{
+  AllBelow,
+  fateBy,
+  first,
+  fate,
+  Queued,
+  Serves,
+  Served,
+  Round,
+  Rounds,
+  limit,
+  ClosedWithin,
+  NobodyWaits,
+  WhoeverCalls,
+  inTurn,
+  RoundsExist,
+}
+use Rattle.history.proofs.Effects.{Listed, requests, commits}
+use Rattle.history.proofs.Grown.{next, client, Grown, inv, is-open, is-below, at-most-13, grows, grows-table}
+use Rattle.history.proofs.AfterRounds.{run, runs, Meets, AllRounds, AllNamed}
+use Rattle.history.proofs.Ending.{over-in-time, fated, ended}
+
+-- ---- a list of rounds, and all its calls in one list
+
+run-append : (s : Image) (l m : List Call) → run s (l ++ m) ≡ run (run s l) m
+run-append s [] m = refl
+run-append s (c ∷ l) m = run-append (next s c) l m
+
+run-joined : (s : Image) (rs : List (List Call)) → run s (flatten rs) ≡ runs s rs
+unfolding flatten
+run-joined s [] = refl
+run-joined s (r ∷ rs) = run-append s r (flatten rs) ∙ run-joined (run s r) rs
+
+split : (n : ℕ) (l m : List Call) → AllBelow n (l ++ m) → AllBelow n l × AllBelow n m
+split n [] m h = (tt, h)
+split n (c ∷ l) m h = let r = split n l m (h .1) in ((h .0, r .0), r .1)
+
+each-named : (n : ℕ) (rs : List (List Call)) → AllBelow n (flatten rs) → AllNamed n rs
+unfolding flatten
+each-named n [] h = tt
+each-named n (r ∷ rs) h = let z = split n r (flatten rs) h in (z .0, each-named n rs (z .1))
+
+-- ---- from the record and the buffers to images
+
+-- an open client's stage in the plain table
+stage-in : (c : own.PClient) (o : Open) → clientOf c ≡ some o → c .stage ≡ o .stage
+unfolding clientOf
+stage-in c o e = go (c .live) e
+  where
+    go : (x : Bool) → (if x then some (openOf c) else none) ≡ some o → c .stage ≡ o .stage
+    go true e = ap (λ (z : Open). z .stage) (same-some e)
+    go false e = absurd (none-some refl e)
+
+-- what a list of calls leaves
+record Followed (n : ℕ) (s : Image) (l : List Call) (t : Table) : Type 0 where
+  pub grown : Grown n (run s l)
+  pub memory : afterRun l (whole s) ≡ whole (run s l)
+  pub table : tableAfter l (whole s) t ≡ erase (grown .table)
+
+module _ {n : ℕ} where
+  follow : (s : Image) (l : List Call) (g : Grown n s) → AllBelow n l → Followed n s l (erase (g .table))
+  follow s [] g o = record { grown = g; memory = refl; table = refl }
+  follow s (c ∷ l) g o =
+      let e = same-memory s (g .good .fine) c in
+      let r = follow (next s c) l (grows s c g (o .0)) (o .1) in
+      record {
+        grown = r .grown;
+        memory = ap (afterRun l) e ∙ r .memory;
+        table = ap (λ (x : Memory). tableAfter l x (tell c (tells c (whole s)) (erase (g .table)))) e
+            ∙ ap (λ (x : Answer (Told c)). tableAfter l (whole (next s c)) (tell c x (erase (g .table)))) (same-told s (g .good .fine) c)
+            ∙ ap (tableAfter l (whole (next s c))) (fed (g .good) c ∙ ap erase (sym (grows-table s c g (o .0))))
+            ∙ r .table;
+      }
+
+  fate-as : (b : ℕ) (s : Image) (l : List Call) → Grown n s → AllBelow n l → fate b (whole s) l ≡ fated b s l
+  fate-as b s [] g o = refl
+  fate-as b s (c ∷ l) g o =
+      ap (λ (x : Answer (Told c)). first (fateBy b c x) (fate b (memoryOf (takes c (whole s))) l)) (same-told s (g .good .fine) c)
+      ∙ ap (λ (x : Memory). first (fateBy b c (told-by c s)) (fate b x l)) (same-memory s (g .good .fine) c)
+      ∙ ap (first (fateBy b c (told-by c s))) (fate-as b (next s c) l (grows s c g (o .0)) (o .1))
+
+  meets : (b : ℕ) (s : Image) (l : List Call) → Grown n s → AllBelow n l → Served b (whole s) l → Meets b s l
+  meets b s [] g o d = d
+  meets b s (c ∷ l) g o (inl d) = inl (subst (Serves b c) (same-told s (g .good .fine) c) d)
+  meets b s (c ∷ l) g o (inr d) =
+      inr (meets b (next s c) l (grows s c g (o .0)) (o .1) (subst (λ (x : Memory). Served b x l) (same-memory s (g .good .fine) c) d))
+
+  -- the plain table has the store's stages
+  queued : (s : Image) (g : Grown n s) (b : ℕ) → 1 ≤ client s b .stage → Queued (erase (g .table)) b
+  unfolding erase clientOf
+  queued s g b h =
+      let i = inv s g .one b in
+      (openOf (g .table .cl b), rw (i .live (is-open s g b h)), omega (arith, i .on-stage), omega (arith, i .on-stage, at-most-13 s g b))
+
+  in-queue : (s : Image) (g : Grown n s) (b : ℕ) → Queued (erase (g .table)) b → 1 ≤ client s b .stage
+  unfolding erase
+  in-queue s g b q = omega (arith, inv s g .one b .on-stage, stage-in (g .table .cl b) (q .0) (q .1), q .2)
+
+  rounds-on : (s : Image) (rs : List (List Call)) (g : Grown n s) → AllNamed n rs → Rounds (whole s) (erase (g .table)) rs → AllRounds s rs
+  rounds-on s [] g o h = tt
+  rounds-on s (r ∷ rs) g o h =
+      let f = follow s r g (o .0) in
+      let x : Rounds (whole (run s r)) (tableAfter r (whole s) (erase (g .table))) rs =
+      subst (λ (x : Memory). Rounds x (tableAfter r (whole s) (erase (g .table))) rs) (f .memory) (h .1) in (
+        λ b k. meets b s r g (o .0) (h .0 b (queued s g b k)),
+        rounds-on (run s r) rs (f .grown) (o .1) (subst (λ (t : Table). Rounds (whole (run s r)) t rs) (f .table) x),
+      )
+
+  closed-within : (s : Image) (g : Grown n s) (rounds : List (List Call)) → AllBelow n (flatten rounds)
+      → ClosedWithin (limit n) (whole s) (erase (g .table)) rounds
+  closed-within s g rounds below rs long b q a =
+      let h = in-queue s g b q in
+      let t : ℕ = client s b .number in
+      let p : 1 ≤ t = is-open s g b h in
+      let names = each-named n rounds below in
+      let z = over-in-time n b t p (length rounds) long s g (inv s g .tab .mine b p .num-le, λ _. h) .at rounds refl names (rounds-on s rounds g names rs) in
+      let e = fate-as b s (flatten rounds) g below in
+      e ∙ ended b t s (flatten rounds) g below refl h
+      (λ i. z .1 (ap (λ (u : Image). client u b .number) (sym (run-joined s rounds)) ∙ i)) (λ i. a (e ∙ i))
+
+-- ---- from set-up
+
+none-listed : (r : Bounds) (w : ℕ) → Listed requests (m.fresh r w .cl) × Listed commits (m.fresh r w .cl)
+unfolding m.fresh m.closed
+none-listed r w = (λ b x h e. absurd (false≢true e), λ b x h e. absurd (false≢true e))
+
+none-open : (r : Bounds) (w b : ℕ) → m.fresh r w .cl b .number ≡ 0
+unfolding m.fresh m.closed
+none-open r w b = refl
+
+start : (n r l w : ℕ) → 1 ≤ r → r ≤ 1024 → w ≤ 4294967295 → Grown n (empty r l w)
+start n r l w h k z =
+    let e = empty-view r l w in
+    let b : Bounds = record { rows = r; limit = l } in
+    let o = none-listed b w in
+    record {
+      bounds = b;
+      last = 0;
+      table = own.empty;
+      good = start-good r l w h k z;
+      lists-R = subst (λ (s : State). Listed requests (s .cl)) (sym e) (o .0);
+      lists-C = subst (λ (s : State). Listed commits (s .cl)) (sym e) (o .1);
+      named = λ k _. ap (λ (s : State). s .cl k .number) e ∙ none-open b w k;
+    }
+
+-- after a refused set-up the plain table stays blank
+refused-table : (d c : List ℕ) (l : List Call) → tableAfter l (unused d c) blank ≡ blank
+unfolding tell
+refused-table d c [] = refl
+refused-table d c (q ∷ l) =
+    ap (λ (x : Memory). tableAfter l x (tell q (tells q (unused d c)) blank)) (ap memoryOf (refused-call d c q))
+    ∙ ap (λ (x : Answer (Told q)). tableAfter l (unused d c) (tell q x blank)) (refused-tells d c q)
+    ∙ refused-table d c l
+
+nobody-queued : (t : Table) (k : ℕ) → t ≡ blank → Queued t k → ⊥
+unfolding blank
+nobody-queued t k e q = none-some refl (ap (λ (x : Table). x .clients k) (sym e) ∙ q .1)
+
+-- what holds of record, buffers and table after the calls qs, if it holds of every grown image, and where nobody is at any stage
+module _ (d c : List ℕ) (w l : ℕ) (lw : w ≤ 4294967295) (qs : List Call) (n : ℕ) (below : AllBelow n qs) (X : Memory → Table → Type 0)
+    (grown : (s : Image) (g : Grown n s) → X (whole s) (erase (g .table))) (idle : (m : Memory) (t : Table) → ((k : ℕ) → Queued t k → ⊥) → X m t) where
+  from-set-up : X (afterRun qs (memoryOf (setUp d c w l))) (tableAfter qs (memoryOf (setUp d c w l)) blank)
+  unfolding start
+  from-set-up = go (accepts (length d) (length c) w l) refl
+    where
+      go : (b : Bool) → accepts (length d) (length c) w l ≡ b → X (afterRun qs (memoryOf (setUp d c w l))) (tableAfter qs (memoryOf (setUp d c w l)) blank)
+      go true e =
+          let a = accepted (length d) (length c) w l e in
+          let s : Image = bridge.first d w l in
+          let f = follow s qs (start n (length d / 24) (limitOf l) (w - 1) (a .some) (a .most) (omega arith)) below in
+          subst (λ (x : Memory). X (afterRun qs x) (tableAfter qs x blank)) (sym (set-up-whole d c w l e))
+          (subst (λ (x : Table). X (afterRun qs (whole s)) (tableAfter qs (whole s) x)) erase-empty
+          (subst (λ (x : Memory). X x (tableAfter qs (whole s) (erase own.empty))) (sym (f .memory))
+          (subst (λ (x : Table). X (whole (run s qs)) x) (sym (f .table)) (grown (run s qs) (f .grown)))))
+      go false e = idle _ _ (λ k. nobody-queued _ k (ap (λ (x : Memory). tableAfter qs x blank) (refused-memory d c w l e) ∙ refused-table d c qs))
+
+-- ---- the three claims
+
+module _ (d c : List ℕ) (w l : ℕ) (lw : w ≤ 4294967295) (qs : List Call) where
+  pub nobody-waits : NobodyWaits (memoryOf (setUp d c w l)) qs
+  nobody-waits n below rounds =
+      from-set-up d c w l lw qs n below (λ m t. AllBelow n (flatten rounds) → ClosedWithin (limit n) m t rounds)
+      (λ s g. closed-within s g rounds) (λ m t h below rs long k q. absurd (h k q))
+
+  pub whoever-calls : WhoeverCalls (memoryOf (setUp d c w l)) qs
+  whoever-calls rounds = nobody-waits clients (all-below qs) rounds (all-below (flatten rounds))
+    where
+      -- every client is below `clients`
+      all-below : (l : List Call) → AllBelow clients l
+      all-below [] = tt
+      all-below (q ∷ l) = (λ k e h. h, all-below l)
+
+  pub rounds-exist : RoundsExist (memoryOf (setUp d c w l)) qs
+  rounds-exist n below = (
+    own-turns n n (omega arith),
+    from-set-up d c w l lw qs n below (λ m t. Round m t (inTurn n))
+        (λ s g k q. served n k (whole s) (is-below s g k (in-queue s g k q))) (λ m t h k q. absurd (h k q)),
+  )
+    where
+      own-turns : (n k : ℕ) → k ≤ n → AllBelow n (inTurn k)
+      own-turns n zero h = tt
+      own-turns n (suc k) h = (λ j e _. omega (arith, same-some e), own-turns n k (omega arith))
+
+      served : (n k : ℕ) (x : Memory) → k < n → Served k x (inTurn n)
+      served zero k x h = absurd (omega arith)
+      served (suc n) k x h = by-cases (ℕ-discrete n k) (λ e. inl (inl (ap Advance e))) (λ e. inr (served n k _ (omega (arith, e))))
