@@ -1,3 +1,4 @@
+pub mod Accord
 pub mod Book
 pub mod Between
 pub mod Repeats

@@ -1,0 +1,161 @@
+-- The words of specs/Rounds on one small run, computed: which lists of calls are rounds, and in which round a transaction is closed. In a store of
+-- three rows clients 0 and 1 have written a cell each and entered the request queue; client 2 has begun and is at stage 0.
+-- Assumes nothing.
+use Prim.Native.Nat.{ℕ, _≤_}
+use mathlib.Core.Path.{_≡_, refl, sym, ap, _∙_, subst}
+use mathlib.Core.Logic.{_≢_, inl, inr, by-cases}
+use mathlib.Core.Bool.{Bool, true, false, false≢true}
+use mathlib.Core.List.{List, [], _∷_, flatten}
+use mathlib.Core.Option.{Option, none, some}
+use native.Mathlib.Decide.{ℕ-discrete}
+use native.Mathlib.Omega.{arith}
+use borrow.Author.Tests.{ne-eqb}
+use lib.ListN.{replicate}
+use Rattle.sets.specs.Set.{bit, member, insert, remove, size, collect, strike}
+use Rattle.rows.specs.Rows.{
+  spliced,
+  number,
+  bytesOf,
+  dataRow,
+  tagOf,
+  cellOf,
+  commitRow,
+  commitNumber,
+  commitTag,
+  rowAt,
+  rowsIn,
+  rowsFrom,
+  laid,
+  filter,
+  hasTag,
+}
+use Rattle.search.specs.Numbers.{lesser, smallest, above}
+use Rattle.search.specs.Look.{commitOf, isOwn, find}
+use Rattle.search.specs.Share.{any, count, wrote, cellsOf, shares, clash, conflict}
+use Rattle.spec.specs.Image.{cleared, closed, empty}
+use Rattle.spec.specs.Calls.{begun, begin, replaced, added, write, removed, abandon}
+use Rattle.spec.specs.Steps.{
+  queued,
+  struck,
+  others,
+  goOn,
+  enter,
+  takeRequest,
+  listRequests,
+  looked,
+  lookRequests,
+  check,
+  takeCommit,
+  listCommits,
+  lookCommits,
+  addCommit,
+  leaveCommits,
+  leaveRequests,
+  finished,
+  advance,
+}
+use Rattle.spec.specs.Bytes.{seen, storeOf, laidOut, known, fits, after, accepts, setUp}
+use Rattle.spec.specs.Run.{Call, Begin, Write, Advance, Abandon, perform, Memory, memoryOf, takes}
+use Rattle.spec.specs.Table.{Open, Table, blank, put, reaches, tell}
+use Rattle.spec.specs.Right.{tells}
+use Rattle.spec.proofs.Lists.{same-some}
+use Rattle.history.specs.Afterwards.{afterRun, tableAfter}
+use Rattle.history.specs.Rounds.{named, Fate, StillOpen, Closed, Abandoned, fateBy, fate, Queued, Served, Round}
+
+-- ---- the run
+
+abbrev value : List ℕ
+value = replicate 16 0
+
+abbrev fresh : Memory
+fresh = memoryOf (setUp (replicate 72 0) (replicate 24 0) 1 0)
+
+abbrev calls : List Call
+calls = Begin 0 ∷ Begin 1 ∷ Begin 2 ∷ Write 0 7 value ∷ Write 1 8 value ∷ Advance 0 ∷ Advance 1 ∷ []
+
+abbrev memory : Memory
+memory = afterRun calls fresh
+
+abbrev table : Table
+table = tableAfter calls fresh blank
+
+abbrev stageIn : Option Open → ℕ
+stageIn none = 0
+stageIn (some o) = o .stage
+
+-- ---- what is computed
+
+record Computed : Type 0 where
+  pub twelve : fate 0 memory (replicate 12 (Advance 0)) ≡ StillOpen
+  pub thirteen : fate 0 memory (replicate 13 (Advance 0)) ≡ Closed
+  pub waits : stageIn (table .clients 1) ≡ 1
+  pub begins : stageIn (table .clients 2) ≡ 0
+  pub others : (k : ℕ) → k ≢ 0 → k ≢ 1 → k ≢ 2 → stageIn (table .clients k) ≡ 0
+  pub gives-up : fateBy 1 (Abandon 1) (tells (Abandon 1) (memoryOf (takes (Advance 0) memory))) ≡ Abandoned
+
+computed : Computed
+unfolding
+    flatten
+    bit member insert remove size collect strike
+    spliced number bytesOf dataRow tagOf cellOf commitRow commitNumber commitTag rowAt rowsIn rowsFrom laid filter hasTag
+    lesser smallest above commitOf isOwn find any count wrote cellsOf shares clash conflict
+    cleared closed empty begun begin replaced added write removed abandon
+    queued struck others goOn enter takeRequest listRequests looked lookRequests check takeCommit listCommits lookCommits addCommit
+    leaveCommits leaveRequests finished advance
+    seen storeOf laidOut known fits after accepts setUp perform
+    blank put reaches tell
+computed = record {
+  twelve = refl;
+  thirteen = refl;
+  waits = refl;
+  begins = refl;
+  others = λ k n0 n1 n2. rw (ne-eqb k 0 n0, ne-eqb k 1 n1, ne-eqb k 2 n2);
+  gives-up = refl;
+}
+
+-- ---- what it shows
+
+idle : (k : ℕ) → k ≢ 0 → k ≢ 1 → Queued table k → ⊥
+idle k n0 n1 q =
+    omega (
+      arith,
+      q .2,
+      ap stageIn (sym (q .1)),
+      by-cases (ℕ-discrete k 2) (λ e. ap (λ (j : ℕ). stageIn (table .clients j)) e ∙ computed .begins) (λ n2. computed .others k n0 n1 n2),
+    )
+
+waiting : (x : Option Open) → stageIn x ≡ 1 → (o : Open) × (x ≡ some o) × (1 ≤ o .stage) × (o .stage ≤ 13)
+waiting none e = absurd (omega arith)
+waiting (some o) e = (o, refl, omega arith, omega arith)
+
+is-open : Fate → Bool
+is-open StillOpen = true
+is-open Closed = false
+is-open Abandoned = false
+
+-- "advanced at least once or closed before its end": client 0 is advanced, client 1 abandoned; client 2 needs nothing
+pub a-round : Round memory table (Advance 0 ∷ Abandon 1 ∷ [])
+unfolding is-open
+a-round k q =
+    by-cases (ℕ-discrete k 0)
+    (λ e. inl (inl (ap Advance (sym e))))
+    (λ n0. by-cases (ℕ-discrete k 1)
+    (λ e. subst (λ (j : ℕ). Served j memory (Advance 0 ∷ Abandon 1 ∷ [])) (sym e)
+    (inr (inl (inr (λ z. false≢true (ap is-open (sym (computed .gives-up) ∙ z)))))))
+    (λ n1. absurd (idle k n0 n1 q)))
+
+-- "every client at stages 1 to 13": without client 1 it is none
+pub no-round : Round memory table (Advance 0 ∷ []) → ⊥
+no-round r = unserved (r 1 (waiting (table .clients 1) (computed .waits)))
+  where
+    unserved : Served 1 memory (Advance 0 ∷ []) → ⊥
+    unserved (inl (inl e)) = omega (arith, same-some (ap named e))
+    unserved (inl (inr n)) = n refl
+    unserved (inr x) = x
+
+-- advanced alone, client 0 is closed with the thirteenth Advance, and not before
+pub not-in-twelve : fate 0 memory (replicate 12 (Advance 0)) ≡ StillOpen
+not-in-twelve = computed .twelve
+
+pub in-thirteen : fate 0 memory (replicate 13 (Advance 0)) ≡ Closed
+in-thirteen = computed .thirteen
