@@ -1,10 +1,10 @@
 -- The words of specs/Rounds on one small run, computed: which lists of calls are rounds, and in which round a transaction is closed. In a store of
 -- three rows clients 0 and 1 have written a cell each and entered the request queue; client 2 has begun and is at stage 0.
 -- Assumes nothing.
-use Prim.Native.Nat.{ℕ, _≤_}
-use mathlib.Core.Path.{_≡_, refl, sym, ap, _∙_, subst}
-use mathlib.Core.Logic.{_≢_, inl, inr, by-cases}
-use mathlib.Core.Bool.{Bool, true, false, false≢true}
+use Prim.Native.Nat.{ℕ}
+use mathlib.Core.Path.{_≡_, refl, sym, ap, _∙_}
+use mathlib.Core.Logic.{_≢_, by-cases}
+use mathlib.Core.Bool.{true, false, false≢true}
 use mathlib.Core.List.{List, [], _∷_, flatten}
 use mathlib.Core.Option.{Option, none, some}
 use native.Mathlib.Decide.{ℕ-discrete}
@@ -13,6 +13,7 @@ use borrow.Author.Tests.{ne-eqb}
 use lib.ListN.{replicate}
 use Rattle.sets.specs.Set.{bit, member, insert, remove, size, collect, strike}
 use Rattle.rows.specs.Rows.{
+  valueOf,
   spliced,
   number,
   bytesOf,
@@ -29,11 +30,11 @@ use Rattle.rows.specs.Rows.{
   filter,
   hasTag,
 }
-use Rattle.search.specs.Numbers.{lesser, smallest, above}
-use Rattle.search.specs.Look.{commitOf, isOwn, find}
+use Rattle.search.specs.Numbers.{lesser, smallest, above, upTo}
+use Rattle.search.specs.Look.{commitOf, isOwn, find, versionOf, newer, seenAt, newest, ownOr, lookFor, valueIn}
 use Rattle.search.specs.Share.{any, count, wrote, cellsOf, shares, clash, conflict}
 use Rattle.spec.specs.Image.{cleared, closed, empty}
-use Rattle.spec.specs.Calls.{begun, begin, replaced, added, write, removed, abandon}
+use Rattle.spec.specs.Calls.{begun, begin, read, replaced, added, write, removed, abandon}
 use Rattle.spec.specs.Steps.{
   queued,
   struck,
@@ -54,13 +55,13 @@ use Rattle.spec.specs.Steps.{
   finished,
   advance,
 }
+use Rattle.spec.specs.declared.Progress.the-variants.{Conflict}
+use Rattle.spec.specs.Answers.{Answered}
 use Rattle.spec.specs.Bytes.{seen, storeOf, laidOut, known, fits, after, accepts, setUp}
-use Rattle.spec.specs.Run.{Call, Begin, Write, Advance, Abandon, perform, Memory, memoryOf, takes}
+use Rattle.spec.specs.Run.{Call, Begin, Read, Write, Advance, Abandon, perform, Memory, memoryOf}
 use Rattle.spec.specs.Table.{Open, Table, blank, put, reaches, tell}
-use Rattle.spec.specs.Right.{tells}
-use Rattle.spec.proofs.Lists.{same-some}
 use Rattle.history.specs.Afterwards.{afterRun, tableAfter}
-use Rattle.history.specs.Rounds.{named, Fate, StillOpen, Closed, Abandoned, fateBy, fate, Queued, Served, Round}
+use Rattle.history.specs.Rounds.{StillOpen, Closed, Abandoned, fateBy, fate, Queued, served, Round}
 
 -- ---- the run
 
@@ -91,15 +92,18 @@ record Computed : Type 0 where
   pub waits : stageIn (table .clients 1) ≡ 1
   pub begins : stageIn (table .clients 2) ≡ 0
   pub others : (k : ℕ) → k ≢ 0 → k ≢ 1 → k ≢ 2 → stageIn (table .clients k) ≡ 0
-  pub gives-up : fateBy 1 (Abandon 1) (tells (Abandon 1) (memoryOf (takes (Advance 0) memory))) ≡ Abandoned
+  pub first : served 0 memory (Advance 0 ∷ Abandon 1 ∷ []) ≡ true
+  pub second : served 1 memory (Advance 0 ∷ Abandon 1 ∷ []) ≡ true
+  pub unserved : served 1 memory (Advance 0 ∷ Read 1 8 ∷ []) ≡ false
+  pub gives-up : fate 1 memory (Advance 0 ∷ Abandon 1 ∷ []) ≡ Abandoned
 
 computed : Computed
 unfolding
     flatten
     bit member insert remove size collect strike
     spliced number bytesOf dataRow tagOf cellOf commitRow commitNumber commitTag rowAt rowsIn rowsFrom laid filter hasTag
-    lesser smallest above commitOf isOwn find any count wrote cellsOf shares clash conflict
-    cleared closed empty begun begin replaced added write removed abandon
+    lesser smallest above upTo commitOf isOwn find versionOf newer seenAt newest ownOr lookFor valueIn valueOf any count wrote cellsOf shares clash conflict
+    cleared closed empty begun begin read replaced added write removed abandon
     queued struck others goOn enter takeRequest listRequests looked lookRequests check takeCommit listCommits lookCommits addCommit
     leaveCommits leaveRequests finished advance
     seen storeOf laidOut known fits after accepts setUp perform
@@ -110,6 +114,9 @@ computed = record {
   waits = refl;
   begins = refl;
   others = λ k n0 n1 n2. rw (ne-eqb k 0 n0, ne-eqb k 1 n1, ne-eqb k 2 n2);
+  first = refl;
+  second = refl;
+  unserved = refl;
   gives-up = refl;
 }
 
@@ -124,34 +131,22 @@ idle k n0 n1 q =
       by-cases (ℕ-discrete k 2) (λ e. ap (λ (j : ℕ). stageIn (table .clients j)) e ∙ computed .begins) (λ n2. computed .others k n0 n1 n2),
     )
 
-waiting : (x : Option Open) → stageIn x ≡ 1 → (o : Open) × (x ≡ some o) × (1 ≤ o .stage) × (o .stage ≤ 13)
-waiting none e = absurd (omega arith)
-waiting (some o) e = (o, refl, omega arith, omega arith)
-
-is-open : Fate → Bool
-is-open StillOpen = true
-is-open Closed = false
-is-open Abandoned = false
+at-stage-1 : (t : Table) (k : ℕ) (x : Option Open) → t .clients k ≡ x → stageIn x ≡ 1 → Queued t k
+at-stage-1 t k none e h = absurd (omega arith)
+at-stage-1 t k (some o) e h = (o, e, omega arith, omega arith)
 
 -- "advanced at least once or closed before its end": client 0 is advanced, client 1 abandoned; client 2 needs nothing
 pub a-round : Round memory table (Advance 0 ∷ Abandon 1 ∷ [])
-unfolding is-open
 a-round k q =
     by-cases (ℕ-discrete k 0)
-    (λ e. inl (inl (ap Advance (sym e))))
+    (λ e. ap (λ (j : ℕ). served j memory (Advance 0 ∷ Abandon 1 ∷ [])) e ∙ computed .first)
     (λ n0. by-cases (ℕ-discrete k 1)
-    (λ e. subst (λ (j : ℕ). Served j memory (Advance 0 ∷ Abandon 1 ∷ [])) (sym e)
-    (inr (inl (inr (λ z. false≢true (ap is-open (sym (computed .gives-up) ∙ z)))))))
+    (λ e. ap (λ (j : ℕ). served j memory (Advance 0 ∷ Abandon 1 ∷ [])) e ∙ computed .second)
     (λ n1. absurd (idle k n0 n1 q)))
 
--- "every client at stages 1 to 13": without client 1 it is none
-pub no-round : Round memory table (Advance 0 ∷ []) → ⊥
-no-round r = unserved (r 1 (waiting (table .clients 1) (computed .waits)))
-  where
-    unserved : Served 1 memory (Advance 0 ∷ []) → ⊥
-    unserved (inl (inl e)) = omega (arith, same-some (ap named e))
-    unserved (inl (inr n)) = n refl
-    unserved (inr x) = x
+-- "every client at stages 1 to 13": client 1 is not, if it only reads
+pub no-round : Round memory table (Advance 0 ∷ Read 1 8 ∷ []) → ⊥
+no-round r = false≢true (sym (computed .unserved) ∙ r 1 (at-stage-1 table 1 (table .clients 1) refl (computed .waits)))
 
 -- advanced alone, client 0 is closed with the thirteenth Advance, and not before
 pub not-in-twelve : fate 0 memory (replicate 12 (Advance 0)) ≡ StillOpen
@@ -159,3 +154,10 @@ not-in-twelve = computed .twelve
 
 pub in-thirteen : fate 0 memory (replicate 13 (Advance 0)) ≡ Closed
 in-thirteen = computed .thirteen
+
+-- "closed, Done or Conflict", and abandoned is another thing
+pub by-conflict : fateBy 3 (Advance 3) (Answered (Conflict 9)) ≡ Closed
+by-conflict = refl
+
+pub by-abandon : fate 1 memory (Advance 0 ∷ Abandon 1 ∷ []) ≡ Abandoned
+by-abandon = computed .gives-up

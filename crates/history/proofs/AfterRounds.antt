@@ -3,14 +3,14 @@
 -- Assumes nothing.
 use Prim.Native.Nat.{ℕ, zero, suc, _+_, _-_, _≤_}
 use mathlib.Core.Path.{_≡_, refl, _∙_}
-use mathlib.Core.Logic.{_⊎_, inl, inr}
+use mathlib.Core.Bool.{Bool, true, false, _||_, false≢true}
 use mathlib.Core.List.{List, [], _∷_}
 use native.Mathlib.Omega.{arith}
 use lib.ListN.{length}
 use Rattle.spec.specs.Image.{Image}
 use Rattle.spec.specs.Run.{Call}
 use Rattle.spec.proofs.Demand.{told-by}
-use Rattle.history.specs.Rounds.{Below, AllBelow, Serves}
+use Rattle.history.specs.Rounds.{Below, AllBelow, serves}
 use Rattle.history.proofs.Grown.{next, client, Grown, grows}
 
 -- ---- calls and rounds on images
@@ -23,13 +23,13 @@ abbrev pub runs : Image → List (List Call) → Image
 runs s [] = s
 runs s (r ∷ rs) = runs (run s r) rs
 
-abbrev pub Meets : ℕ → Image → List Call → Type 0
-Meets b s [] = ⊥
-Meets b s (c ∷ l) = Serves b c (told-by c s) ⊎ Meets b (next s c) l
+abbrev pub meets : ℕ → Image → List Call → Bool
+meets b s [] = false
+meets b s (c ∷ l) = serves b c (told-by c s) || meets b (next s c) l
 
 abbrev pub AllRounds : Image → List (List Call) → Type 0
 AllRounds s [] = Unit {0}
-AllRounds s (r ∷ rs) = ((b : ℕ) → 1 ≤ client s b .stage → Meets b s r) × AllRounds (run s r) rs
+AllRounds s (r ∷ rs) = ((b : ℕ) → 1 ≤ client s b .stage → meets b s r ≡ true) × AllRounds (run s r) rs
 
 abbrev pub AllNamed : ℕ → List (List Call) → Type 0
 AllNamed n [] = Unit {0}
@@ -45,7 +45,7 @@ Stable n X = (s : Image) (c : Call) → Grown n s → Below n c → X s → X (n
 
 -- the call that serves client b turns X into Y
 abbrev pub Hit : ℕ → ℕ → (Image → Type 0) → (Image → Type 0) → Type 0
-Hit n b X Y = (s : Image) (c : Call) → Grown n s → Below n c → X s → Serves b c (told-by c s) → Y (next s c)
+Hit n b X Y = (s : Image) (c : Call) → Grown n s → Below n c → X s → serves b c (told-by c s) ≡ true → Y (next s c)
 
 module _ {n : ℕ} where
   pub run-grown : (s : Image) (l : List Call) → Grown n s → AllBelow n l → Grown n (run s l)
@@ -93,10 +93,14 @@ module _ {n : ℕ} where
   -- ---- one round: X holds until client b is served, and from then on Y
 
   met : {X Y : Image → Type 0} (b : ℕ) → Stable n X → Stable n Y → Hit n b X Y
-      → (s : Image) (l : List Call) → Grown n s → AllBelow n l → X s → Meets b s l → Y (run s l)
-  met b kx ky hit s [] g o x d = absurd d
-  met b kx ky hit s (c ∷ l) g o x (inl d) = run-keeps ky (next s c) l (grows s c g (o .0)) (o .1) (hit s c g (o .0) x d)
-  met b kx ky hit s (c ∷ l) g o x (inr d) = met b kx ky hit (next s c) l (grows s c g (o .0)) (o .1) (kx s c g (o .0) x) d
+      → (s : Image) (l : List Call) → Grown n s → AllBelow n l → X s → meets b s l ≡ true → Y (run s l)
+  met b kx ky hit s [] g o x d = absurd (false≢true d)
+  met {X} {Y} b kx ky hit s (c ∷ l) g o x d =
+      go (serves b c (told-by c s)) refl d (met b kx ky hit (next s c) l (grows s c g (o .0)) (o .1) (kx s c g (o .0) x))
+    where
+      go : (y : Bool) → serves b c (told-by c s) ≡ y → (y || meets b (next s c) l) ≡ true → (meets b (next s c) l ≡ true → Y (run (next s c) l)) → Y (run (next s c) l)
+      go true e d rest = run-keeps ky (next s c) l (grows s c g (o .0)) (o .1) (hit s c g (o .0) x e)
+      go false e d rest = rest d
 
   pub one-round : {X Y : Image → Type 0} (b : ℕ) → Stable n X → Stable n Y → Hit n b X Y
       → (s : Image) → Grown n s → X s → 1 ≤ client s b .stage → After n 1 Y s

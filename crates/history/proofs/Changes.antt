@@ -4,8 +4,8 @@
 -- Assumes nothing.
 use Prim.Native.Nat.{ℕ, suc, _≤_, _<_}
 use mathlib.Core.Path.{_≡_, refl, sym, _∙_, ap, subst}
-use mathlib.Core.Logic.{_≢_, inl, inr, by-cases}
-use mathlib.Core.Bool.{Bool, true, false, false≢true}
+use mathlib.Core.Logic.{_≢_, by-cases}
+use mathlib.Core.Bool.{Bool, true, false, _||_, or-false, false≢true}
 use mathlib.Core.List.{List}
 use mathlib.Core.Option.{Option, none, some}
 use native.Mathlib.Decide.{ℕ-discrete}
@@ -90,7 +90,7 @@ use Rattle.spec.proofs.Took.{
   trims,
   frees,
 }
-use Rattle.history.specs.Rounds.{named, Fate, StillOpen, Closed, Abandoned, advanced, abandoned, fateBy, Serves}
+use Rattle.history.specs.Rounds.{named, Fate, StillOpen, Abandoned, advanced, abandoned, fateBy, over, advances, serves}
 use Rattle.history.proofs.Effects.{Effect, quiet, opens, closes, ups, after, Fork, Up}
 
 -- ---- the words of the statement
@@ -99,43 +99,27 @@ lasts : (c : Bool) (f : Fate) → f ≡ StillOpen → (if c then f else StillOpe
 lasts true f e = e
 lasts false f e = refl
 
-abbrev over : Fate → Bool
-over StillOpen = false
-over Closed = true
-over Abandoned = true
-
--- who is closed by a call is named by it, and so is who is advanced
-chosen : (a b : ℕ) (f : Fate) → (if eqb a b then f else StillOpen) ≢ StillOpen → a ≡ b
-chosen a b f n = go (eqb a b) refl
+-- who is served by a call is named by it
+serves-named : (b : ℕ) (q : Call) (x : Answer (Told q)) → serves b q x ≡ true → named q ≡ some b
+serves-named b (Begin a) x e = absurd (false≢true e)
+serves-named b (Read a y) x e = absurd (false≢true e)
+serves-named b (Write a y v) x e = absurd (false≢true e)
+serves-named b (Advance a) x e = ap some (go (eqb a b) refl e)
   where
-    go : (c : Bool) → eqb a b ≡ c → a ≡ b
-    go true e = eqb-true a b e
-    go false e = absurd (n (ap (λ (c : Bool). if c then f else StillOpen) e))
+    go : (c : Bool) → eqb a b ≡ c → (c || over (if c then advanced x else StillOpen)) ≡ true → a ≡ b
+    go true i e = eqb-true a b i
+    go false i e = absurd (false≢true e)
+serves-named b (Abandon a) x e = ap some (go (eqb a b) refl e)
+  where
+    go : (c : Bool) → eqb a b ≡ c → over (if c then abandoned x else StillOpen) ≡ true → a ≡ b
+    go true i e = eqb-true a b i
+    go false i e = absurd (false≢true e)
+serves-named b Trim x e = absurd (false≢true e)
+serves-named b Free x e = absurd (false≢true e)
 
-ended-named : (b : ℕ) (q : Call) (x : Answer (Told q)) → fateBy b q x ≢ StillOpen → named q ≡ some b
-ended-named b (Begin a) x n = absurd (n refl)
-ended-named b (Read a y) x n = absurd (n refl)
-ended-named b (Write a y v) x n = absurd (n refl)
-ended-named b (Advance a) x n = ap some (chosen a b (advanced x) n)
-ended-named b (Abandon a) x n = ap some (chosen a b (abandoned x) n)
-ended-named b Trim x n = absurd (n refl)
-ended-named b Free x n = absurd (n refl)
-
-serves-named : (b : ℕ) (q : Call) (x : Answer (Told q)) → Serves b q x → named q ≡ some b
-serves-named b q x (inl e) = ap named e
-serves-named b q x (inr n) = ended-named b q x n
-
-abbrev isAdvance : Call → Bool
-isAdvance (Begin k) = false
-isAdvance (Read k x) = false
-isAdvance (Write k x v) = false
-isAdvance (Advance k) = true
-isAdvance (Abandon k) = false
-isAdvance Trim = false
-isAdvance Free = false
-
-no-advance-of : {A : Type 0} (q : Call) (b : ℕ) → isAdvance q ≡ false → q ≡ Advance b → A
-no-advance-of q b f e = absurd (false≢true (sym f ∙ ap isAdvance e))
+-- who is not ended by it is advanced
+serves-advances : (b : ℕ) (q : Call) (x : Answer (Told q)) → fateBy b q x ≡ StillOpen → serves b q x ≡ true → advances b q ≡ true
+serves-advances b q x f e = sym (or-false (advances b q)) ∙ ap (λ (z : Fate). advances b q || over z) (sym f) ∙ e
 
 -- ---- the four changes
 
@@ -147,7 +131,7 @@ pub data Moved (s : State) (a : ℕ) (c : Client) : Type 0 where
 
 pub data Change (s : State) : (q : Call) → Out (Answer (Told q)) → Type 0 where
   rests : {q : Call} {x : Answer (Told q)} (t : State) → t .cl ≡ s .cl → t .W ≡ s .W → t .R ≡ s .R → t .C ≡ s .C
-      → ((b : ℕ) → fateBy b q x ≡ StillOpen) → ((b : ℕ) → q ≡ Advance b → s .cl b .stage ≡ 0) → Change s q (out t x)
+      → ((b : ℕ) → fateBy b q x ≡ StillOpen) → ((b : ℕ) → advances b q ≡ true → s .cl b .stage ≡ 0) → Change s q (out t x)
   starts : (a : ℕ) → a < clients → s .cl a .number ≡ 0 → Change s (Begin a) (begun s a)
   moves : (a : ℕ) (c : Client) (x : Answer Progress) (f : Client → Client) (R C last : ℕ) (m : List CRow)
       → Up s a c → Moved s a c → 1 ≤ c .stage → Tame a f → (c .stage ≡ 13 → (d : Client) → f d .cwait a ≡ true → ⊥)
@@ -255,21 +239,21 @@ module _ (s : State) (idle : (b : ℕ) → s .cl b .number ≡ 0 → s .cl b .st
   checks a e (some w) = finished a _ (Answered (Conflict (w .0))) refl
 
   -- an Advance is refused to a closed client alone
-  refused : (a : ℕ) → s .cl a .number ≡ 0 → (b : ℕ) → Advance a ≡ Advance b → s .cl b .stage ≡ 0
-  refused a n b e = ap (λ (z : ℕ). s .cl z .stage) (sym (same-some (ap named e))) ∙ idle a n
+  refused : (a : ℕ) → s .cl a .number ≡ 0 → (b : ℕ) → eqb a b ≡ true → s .cl b .stage ≡ 0
+  refused a n b e = ap (λ (z : ℕ). s .cl z .stage) (sym (eqb-true a b e)) ∙ idle a n
 
   pub change : {q : Call} {o : Out (Answer (Told q))} → Took s q o → Change s q o
   unfolding overwritten added trimmed takeR takeC listR listC committed closed
-  change (no-begin a r m) = rests _ refl refl refl refl (λ _. refl) (λ b. no-advance-of (Begin a) b refl)
-  change (no-read a y r m) = rests _ refl refl refl refl (λ _. refl) (λ b. no-advance-of (Read a y) b refl)
-  change (no-write a y v r m) = rests _ refl refl refl refl (λ _. refl) (λ b. no-advance-of (Write a y v) b refl)
+  change (no-begin a r m) = rests _ refl refl refl refl (λ _. refl) (λ b z. absurd (false≢true z))
+  change (no-read a y r m) = rests _ refl refl refl refl (λ _. refl) (λ b z. absurd (false≢true z))
+  change (no-write a y v r m) = rests _ refl refl refl refl (λ _. refl) (λ b z. absurd (false≢true z))
   change (no-advance a r m) = rests {q = Advance a} {x = Refused r} _ refl refl refl refl (λ b. lasts (eqb a b) StillOpen refl) (refused a m)
   change (no-abandon a r m) =
-      rests {q = Abandon a} {x = Refused r} _ refl refl refl refl (λ b. lasts (eqb a b) StillOpen refl) (λ b. no-advance-of (Abandon a) b refl)
+      rests {q = Abandon a} {x = Refused r} _ refl refl refl refl (λ b. lasts (eqb a b) StillOpen refl) (λ b z. absurd (false≢true z))
   change (begins a h was w) = starts a h was
-  change (reads a y h o e) = rests _ refl refl refl refl (λ _. refl) (λ b. no-advance-of (Read a y) b refl)
-  change (replaces a y v p o e) = rests _ refl refl refl refl (λ _. refl) (λ b. no-advance-of (Write a y v) b refl)
-  change (adds a y v p o e) = rests _ refl refl refl refl (λ _. refl) (λ b. no-advance-of (Write a y v) b refl)
+  change (reads a y h o e) = rests _ refl refl refl refl (λ _. refl) (λ b z. absurd (false≢true z))
+  change (replaces a y v p o e) = rests _ refl refl refl refl (λ _. refl) (λ b z. absurd (false≢true z))
+  change (adds a y v p o e) = rests _ refl refl refl refl (λ _. refl) (λ b z. absurd (false≢true z))
   change (at0 a h o e y) = simply a 1 (omega arith) (omega arith) (omega arith) (omega arith) (omega arith) (omega arith) (omega arith)
   change (ends0 a h o e n) = finished a (s .dat) (Answered (Done (s .cl a .snapshot))) refl
   change (at1 a h o e) =
@@ -297,8 +281,8 @@ module _ (s : State) (idle : (b : ℕ) → s .cl b .number ≡ 0 → s .cl b .st
   change (abandons a h o k) =
       ends {q = Abandon a} {x = figured (removed s a) .answer} a _ refl
       (λ z. false≢true (sym (ap over z) ∙ ap (λ (c : Bool). over (if c then Abandoned else StillOpen)) (eq-eqb a a refl)))
-  change trims = rests _ refl refl refl refl (λ _. refl) (λ b. no-advance-of Trim b refl)
-  change frees = rests _ refl refl refl refl (λ _. refl) (λ b. no-advance-of Free b refl)
+  change trims = rests _ refl refl refl refl (λ _. refl) (λ b z. absurd (false≢true z))
+  change frees = rests _ refl refl refl refl (λ _. refl) (λ b z. absurd (false≢true z))
 
 -- ---- what goes by the four
 
@@ -323,16 +307,11 @@ brings {s} {t} {a} {c} f e u (up i) = goes-up (ap (λ (g : ℕ → Client). g a 
 brings f e u (waits-R i z) = stays-R i z
 brings f e u (waits-C i z) = stays-C i z
 
-pub served-by : {s : State} {q : Call} {o : Out (Answer (Told q))} → Change s q o → (b : ℕ) → Serves b q (o .answer) → 1 ≤ s .cl b .stage
+pub served-by : {s : State} {q : Call} {o : Out (Answer (Told q))} → Change s q o → (b : ℕ) → serves b q (o .answer) ≡ true → 1 ≤ s .cl b .stage
     → Brings s (o .state) b
 unfolding closed
-served-by (rests t i w r c n k) b (inl e) h = absurd (omega (arith, k b e))
-served-by (rests t i w r c n k) b (inr z) h = absurd (z (n b))
-served-by {o = o} (starts a i was) b z h = absurd (nobody a b (o .answer) z)
-  where
-    nobody : (a b : ℕ) (x : Answer (Told (Begin a))) → Serves b (Begin a) x → ⊥
-    nobody a b x (inl e) = no-advance-of (Begin a) b refl e
-    nobody a b x (inr z) = z refl
+served-by (rests {q = q} {x = x} t i w r c n k) b z h = absurd (omega (arith, k b (serves-advances b q x (n b) z)))
+served-by (starts a i was) b z h = absurd (false≢true z)
 served-by {s} (moves a c x f R C last m u v l tame out lr lc) b z h =
     subst (Brings s _) (same-some (serves-named b (Advance a) x z)) (brings f refl u v)
 served-by {s} (ends {q = q} {x = x} a d e n) b z h =

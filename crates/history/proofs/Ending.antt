@@ -21,16 +21,13 @@ use Rattle.history.proofs.Queues.{requested}
 
 -- ---- the limit
 
-square : (n : ℕ) → 9 * n ≤ n * n + 27
-square zero = omega arith
-square (suc zero) = omega arith
-square (suc (suc zero)) = omega arith
-square (suc (suc (suc zero))) = omega arith
-square (suc (suc (suc (suc zero)))) = omega arith
-square (suc (suc (suc (suc (suc k))))) = omega arith
-
 enough : (n : ℕ) → 5 + n * (3 * n + 9) ≤ limit n
-enough n = let h = square n in omega arith
+enough zero = omega arith
+enough (suc zero) = omega arith
+enough (suc (suc zero)) = omega arith
+enough (suc (suc (suc zero))) = omega arith
+enough (suc (suc (suc (suc zero)))) = omega arith
+enough (suc (suc (suc (suc (suc k))))) = omega arith
 
 -- ---- transaction t of client b; W says that its number was issued, so that no later one has it
 

@@ -4,6 +4,7 @@
 use Prim.Native.Nat.{ℕ, _≤_, _<_}
 use mathlib.Core.Path.{_≡_, refl, ap}
 use mathlib.Core.Logic.{inl, inr, by-cases}
+use mathlib.Core.Bool.{true}
 use native.Mathlib.Decide.{ℕ-discrete, decLt}
 use native.Mathlib.Omega.{arith}
 use Rattle.spec.specs.Image.{Image}
@@ -16,7 +17,7 @@ use Rattle.spec.proofs.Invariant.{Inv}
 use Rattle.spec.proofs.Does.{seenAs}
 use Rattle.spec.proofs.Demand.{Good, took, good-next, told-by}
 use Rattle.history.specs.Rounds as calls
-use Rattle.history.specs.Rounds.{Below, Serves}
+use Rattle.history.specs.Rounds.{Below, serves}
 use Rattle.history.proofs.Effects.{requests, commits, Listed, Effect}
 use Rattle.history.proofs.Changes.{Change, change, effect, Brings, served-by}
 
@@ -57,7 +58,7 @@ module _ {n : ℕ} (s : Image) (g : Grown n s) where
   pub does : (c : Call) → Effect c (view s) (view (next s c))
   does c = effect (λ b. inv .one b .idle) (changed c)
 
-  pub gets : (c : Call) (b : ℕ) → Serves b c (told-by c s) → 1 ≤ client s b .stage → Brings (view s) (view (next s c)) b
+  pub gets : (c : Call) (b : ℕ) → serves b c (told-by c s) ≡ true → 1 ≤ client s b .stage → Brings (view s) (view (next s c)) b
   gets c b d h = served-by (changed c) b d h
 
 pub grows : {n : ℕ} (s : Image) (c : Call) → Grown n s → Below n c → Grown n (next s c)
@@ -70,11 +71,8 @@ grows {n} s c g o =
       good = good-next (g .good) c;
       lists-R = x .lists-R (g .lists-R);
       lists-C = x .lists-C (g .lists-C);
-      named = λ b h. elim (x .keep b .shut (g .named b h)) [ inl e ↦ e | inr e ↦ absurd (outside b h (o b (ap calls.named (e .0)) (e .1))) ];
+      named = λ b h. elim (x .keep b .shut (g .named b h)) [ inl e ↦ e | inr e ↦ absurd (let l = o b (ap calls.named (e .0)) (e .1) in omega arith) ];
     }
-  where
-    outside : (b : ℕ) → n ≤ b → b < n → ⊥
-    outside b h l = omega arith
 
 pub grows-table : {n : ℕ} (s : Image) (c : Call) (g : Grown n s) (o : Below n c) → grows s c g o .table ≡ plain (g .table) c (told-by c s)
 unfolding grows

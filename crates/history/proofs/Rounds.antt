@@ -3,12 +3,13 @@
 -- Assumes nothing.
 use Prim.Native.Nat.{ℕ, zero, suc, _-_, _/_, _≤_, _<_}
 use mathlib.Core.Path.{_≡_, refl, sym, _∙_, ap, subst}
-use mathlib.Core.Logic.{_≢_, inl, inr, by-cases}
-use mathlib.Core.Bool.{Bool, true, false, false≢true}
+use mathlib.Core.Logic.{_≢_, by-cases}
+use mathlib.Core.Bool.{Bool, true, false, _||_, or-true, false≢true}
 use mathlib.Core.List.{List, [], _∷_, _++_, flatten}
 use mathlib.Core.Option.{none, some}
 use native.Mathlib.Decide.{ℕ-discrete}
 use native.Mathlib.Omega.{arith}
+use borrow.Author.Tests.{eq-eqb}
 use lib.ListN.{length}
 use Rattle.sets.specs.Choice.{if_then_else_}
 use Rattle.sets.specs.Set.{clients}
@@ -31,12 +32,13 @@ use Rattle.spec.proofs.Demand.{told-by, same-told, same-memory, fed, start-good
 use Rattle.history.specs.Afterwards.{afterRun, tableAfter}
 use Rattle.history.specs.Rounds.{
   AllBelow,
+  over,
   fateBy,
   first,
   fate,
   Queued,
-  Serves,
-  Served,
+  serves,
+  served,
   Round,
   Rounds,
   limit,
@@ -48,7 +50,7 @@ use Rattle.history.specs.Rounds.{
 }
 use Rattle.history.proofs.Effects.{Listed, requests, commits}
 use Rattle.history.proofs.Grown.{next, client, Grown, inv, is-open, is-below, at-most-13, grows, grows-table}
-use Rattle.history.proofs.AfterRounds.{run, runs, Meets, AllRounds, AllNamed}
+use Rattle.history.proofs.AfterRounds.{run, runs, meets, AllRounds, AllNamed}
 use Rattle.history.proofs.Ending.{over-in-time, fated, ended}
 
 -- ---- a list of rounds, and all its calls in one list
@@ -110,11 +112,12 @@ module _ {n : ℕ} where
       ∙ ap (λ (x : Memory). first (fateBy b c (told-by c s)) (fate b x l)) (same-memory s (g .good .fine) c)
       ∙ ap (first (fateBy b c (told-by c s))) (fate-as b (next s c) l (grows s c g (o .0)) (o .1))
 
-  meets : (b : ℕ) (s : Image) (l : List Call) → Grown n s → AllBelow n l → Served b (whole s) l → Meets b s l
-  meets b s [] g o d = d
-  meets b s (c ∷ l) g o (inl d) = inl (subst (Serves b c) (same-told s (g .good .fine) c) d)
-  meets b s (c ∷ l) g o (inr d) =
-      inr (meets b (next s c) l (grows s c g (o .0)) (o .1) (subst (λ (x : Memory). Served b x l) (same-memory s (g .good .fine) c) d))
+  served-as : (b : ℕ) (s : Image) (l : List Call) → Grown n s → AllBelow n l → served b (whole s) l ≡ meets b s l
+  served-as b s [] g o = refl
+  served-as b s (c ∷ l) g o =
+      ap (λ (x : Answer (Told c)). serves b c x || served b (memoryOf (takes c (whole s))) l) (same-told s (g .good .fine) c)
+      ∙ ap (λ (x : Memory). serves b c (told-by c s) || served b x l) (same-memory s (g .good .fine) c)
+      ∙ ap (λ (y : Bool). serves b c (told-by c s) || y) (served-as b (next s c) l (grows s c g (o .0)) (o .1))
 
   -- the plain table has the store's stages
   queued : (s : Image) (g : Grown n s) (b : ℕ) → 1 ≤ client s b .stage → Queued (erase (g .table)) b
@@ -133,7 +136,7 @@ module _ {n : ℕ} where
       let f = follow s r g (o .0) in
       let x : Rounds (whole (run s r)) (tableAfter r (whole s) (erase (g .table))) rs =
       subst (λ (x : Memory). Rounds x (tableAfter r (whole s) (erase (g .table))) rs) (f .memory) (h .1) in (
-        λ b k. meets b s r g (o .0) (h .0 b (queued s g b k)),
+        λ b k. sym (served-as b s r g (o .0)) ∙ h .0 b (queued s g b k),
         rounds-on (run s r) rs (f .grown) (o .1) (subst (λ (t : Table). Rounds (whole (run s r)) t rs) (f .table) x),
       )
 
@@ -225,13 +228,17 @@ module _ (d c : List ℕ) (w l : ℕ) (lw : w ≤ 4294967295) (qs : List Call) w
   rounds-exist n below = (
     own-turns n n (omega arith),
     from-set-up d c w l lw qs n below (λ m t. Round m t (inTurn n))
-        (λ s g k q. served n k (whole s) (is-below s g k (in-queue s g k q))) (λ m t h k q. absurd (h k q)),
+        (λ s g k q. has-turn n k (whole s) (is-below s g k (in-queue s g k q))) (λ m t h k q. absurd (h k q)),
   )
     where
       own-turns : (n k : ℕ) → k ≤ n → AllBelow n (inTurn k)
       own-turns n zero h = tt
       own-turns n (suc k) h = (λ j e _. omega (arith, same-some e), own-turns n k (omega arith))
 
-      served : (n k : ℕ) (x : Memory) → k < n → Served k x (inTurn n)
-      served zero k x h = absurd (omega arith)
-      served (suc n) k x h = by-cases (ℕ-discrete n k) (λ e. inl (inl (ap Advance e))) (λ e. inr (served n k _ (omega (arith, e))))
+      has-turn : (n k : ℕ) (x : Memory) → k < n → served k x (inTurn n) ≡ true
+      has-turn zero k x h = absurd (omega arith)
+      has-turn (suc n) k x h =
+          by-cases (ℕ-discrete n k)
+          (λ e. ap (λ (y : Bool). (y || over (fateBy k (Advance n) (tells (Advance n) x))) || served k (memoryOf (takes (Advance n) x)) (inTurn n)) (eq-eqb n k e))
+          (λ e. ap (λ (y : Bool). serves k (Advance n) (tells (Advance n) x) || y) (has-turn n k _ (omega (arith, e)))
+          ∙ or-true (serves k (Advance n) (tells (Advance n) x)))

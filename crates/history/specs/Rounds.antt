@@ -4,7 +4,8 @@
 -- Assumes nothing.
 use Prim.Native.Nat.{ℕ, zero, suc, _+_, _*_, _≤_, _<_}
 use mathlib.Core.Path.{_≡_}
-use mathlib.Core.Logic.{_≢_, _⊎_}
+use mathlib.Core.Logic.{_≢_}
+use mathlib.Core.Bool.{Bool, true, false, _||_}
 use mathlib.Core.List.{List, [], _∷_, flatten}
 use mathlib.Core.Option.{Option, none, some}
 use lib.Dec.{eqb}
@@ -47,6 +48,11 @@ pub data Fate : Type 0 where
   Closed : Fate
   Abandoned : Fate
 
+abbrev pub over : Fate → Bool
+over StillOpen = false
+over Closed = true
+over Abandoned = true
+
 -- by the answer to its Advance, and to its Abandon
 abbrev pub advanced : Answer Progress → Fate
 advanced (Answered (Stage g)) = StillOpen
@@ -86,16 +92,27 @@ fate k m (q ∷ qs) = first (fateBy k q (tells q m)) (fate k (memoryOf (takes q 
 abbrev pub Queued : Table → ℕ → Type 0
 Queued t k = (o : Open) × (t .clients k ≡ some o) × (1 ≤ o .stage) × (o .stage ≤ 13)
 
--- client k is advanced by a call so answered, whatever the answer, or closed by it
-abbrev pub Serves : ℕ → (q : Call) → Answer (Told q) → Type 0
-Serves k q a = (q ≡ Advance k) ⊎ (fateBy k q a ≢ StillOpen)
+-- the call is an Advance of client k
+abbrev pub advances : ℕ → Call → Bool
+advances k (Begin j) = false
+advances k (Read j x) = false
+advances k (Write j x v) = false
+advances k (Advance j) = eqb j k
+advances k (Abandon j) = false
+advances k Trim = false
+advances k Free = false
 
-abbrev pub Served : ℕ → Memory → List Call → Type 0
-Served k m [] = ⊥
-Served k m (q ∷ qs) = Serves k q (tells q m) ⊎ Served k (memoryOf (takes q m)) qs
+-- client k is advanced by a call so answered, whatever the answer, or closed by it
+abbrev pub serves : ℕ → (q : Call) → Answer (Told q) → Bool
+serves k q a = advances k q || over (fateBy k q a)
+
+-- by one of the calls
+abbrev pub served : ℕ → Memory → List Call → Bool
+served k m [] = false
+served k m (q ∷ qs) = serves k q (tells q m) || served k (memoryOf (takes q m)) qs
 
 abbrev pub Round : Memory → Table → List Call → Type 0
-Round m t qs = (k : ℕ) → Queued t k → Served k m qs
+Round m t qs = (k : ℕ) → Queued t k → served k m qs ≡ true
 
 -- each is a round, and begins where the one before it ended
 abbrev pub Rounds : Memory → Table → List (List Call) → Type 0

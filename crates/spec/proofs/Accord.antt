@@ -9,17 +9,17 @@ use lib.ListN.{length, getD, set, replicate}
 use native.Mathlib.Omega.{arith}
 use borrow.Author.Tests.{le-ltb, le-leb, lt-leb, eq-eqb, ne-eqb}
 use Rattle.sets.specs.Choice.{if_then_else_}
-use Rattle.sets.specs.Set.{clients, bit, member, remove, size}
+use Rattle.sets.specs.Set.{clients, bit, member, insert, remove, size, collect, strike}
 use Rattle.rows.specs.Rows.{Row, number, bytesOf, dataRow, tagOf, cellOf, commitRow, commitNumber, commitTag, filter, hasTag}
 use Rattle.search.specs.Numbers.{lesser, smallest, above}
 use Rattle.search.specs.Look.{commitOf, isOwn}
-use Rattle.search.specs.Share.{any, wrote, cellsOf, clash, conflict}
+use Rattle.search.specs.Share.{any, wrote, cellsOf, shares, clash, conflict}
 use Rattle.trimming.specs.Trim.{between, later, overtaken, stays, trimmedRows, inUse, trimmedCommits}
-use Rattle.spec.specs.declared.Progress.the-variants.{Waiting, Conflict, Done}
+use Rattle.spec.specs.declared.Progress.the-variants.{Stage, Waiting, Conflict, Done}
 use Rattle.spec.specs.Answers.{Answer, Answered, Refused, wrongStage, cellLimit}
 use Rattle.spec.specs.Image.{Clients, Image, countersOf, clientsOf, imageOf, withClients, withRows, cleared, closed, stageOf, numberOf, isOpen, zeros, empty}
 use Rattle.spec.specs.Calls.{cells, top, gives, refuse, read, write, added, removed, abandon, readers, low, trimmedTo, trim}
-use Rattle.spec.specs.Steps.{goOn, finished, enter, looked, check, advance}
+use Rattle.spec.specs.Steps.{queued, struck, others, goOn, finished, enter, looked, lookRequests, lookCommits, check, advance}
 use Rattle.spec.specs.Bytes.{countersIn, clientsIn, recordOf, storeOf, After, leaves, accepts, setUp}
 
 -- ---- the cell limit (document 02, 9): d and c are the bytes of the buffers, w the first W
@@ -126,15 +126,56 @@ wait-first g k w i h = rw (ne-eqb w 0 h)
 abbrev closedAll : Clients
 closedAll = clientsOf zeros zeros zeros zeros zeros zeros zeros
 
--- "check commits above S for a shared cell": transaction 1 committed cell 7 under 1; client 0's transaction 2, with S 0, wrote it too
-abbrev meeting : Image
-meeting =
-    imageOf 4 16 (countersOf 2 2 1 1) (clientsOf (set zeros 0 5) (set zeros 0 2) zeros (set zeros 0 2) zeros zeros zeros)
-    (dataRow 1 7 value ∷ dataRow 2 7 value ∷ []) (commitRow 1 1 ∷ [])
+-- numbers of clients 0, 1 and 2
+abbrev three : ℕ → ℕ → ℕ → List ℕ
+three a b c = set (set (set zeros 0 a) 1 b) 2 c
 
-pub next-commit : check 0 meeting ≡ gives (imageOf 4 16 (countersOf 2 2 1 1) closedAll (dataRow 1 7 value ∷ []) (commitRow 1 1 ∷ [])) (Conflict 1)
+-- "look: strike rows that are gone and rows with a larger noted number"; "list [..] once"; "look, as at 4, by commit number". Clients 0, 1 and 2
+-- wrote cell 7, by transactions 1, 2 and 3. Client 0 has number 1 in both queues and client 1 number 2; client 2 enters last
+abbrev entering : List ℕ → List ℕ → List ℕ → Image
+entering stages blockers ahead =
+    imageOf 4 16 (countersOf 3 2 2 0) (clientsOf stages (three 1 2 3) zeros (three 1 2 0) (three 1 2 0) blockers ahead)
+    (dataRow 1 7 value ∷ dataRow 2 7 value ∷ dataRow 3 7 value ∷ []) []
+
+-- client 0 has client 1 on its list, which has noted its number: it is struck, and client 2, entered since, does not come in
+pub larger-struck : lookRequests 0 (entering (three 4 3 1) (three 2 0 0) zeros) ≡ gives (entering (three 5 3 1) zeros zeros) (Stage 5)
+unfolding lookRequests looked goOn struck queued strike bit member remove insert size collect others shares any wrote isOwn hasTag tagOf cellOf number dataRow bytesOf
+larger-struck = refl
+
+pub larger-commit-struck : lookCommits 0 (entering (three 10 9 7) zeros (three 2 0 0)) ≡ gives (entering (three 11 9 7) zeros zeros) (Stage 11)
+unfolding lookCommits looked goOn struck queued strike bit member remove insert size collect others
+larger-commit-struck = refl
+
+-- "A row without a noted number is not struck": client 1 has its number, and has not noted it
+pub unnoted-kept : lookRequests 0 (entering (three 4 2 1) (three 2 0 0) zeros) ≡ gives (entering (three 4 2 1) (three 2 0 0) zeros) (Waiting 1)
+unfolding lookRequests looked goOn struck queued strike bit member remove size
+unnoted-kept = refl
+
+-- client 1 has client 0 on its list, and waits
+pub smaller-kept : lookRequests 1 (entering (three 4 4 1) (three 0 1 0) zeros) ≡ gives (entering (three 4 4 1) (three 0 1 0) zeros) (Waiting 1)
+unfolding lookRequests looked goOn struck queued strike bit member remove size
+smaller-kept = refl
+
+-- transaction 1 committed cell 7 under 1; client 0's transaction 2, with S 0, wrote it too, and client 1's transaction 3 has it on its list
+abbrev meeting : Clients → List Row → Image
+meeting c r = imageOf 4 16 (countersOf 3 3 1 1) c (dataRow 1 7 value ∷ r) (commitRow 1 1 ∷ [])
+
+abbrev met : Image
+met = meeting (clientsOf (three 5 4 0) (three 2 3 0) zeros (three 2 3 0) zeros (three 0 1 0) zeros) (dataRow 2 7 value ∷ dataRow 3 7 value ∷ [])
+
+-- what is left when client 0 is closed: "removes the transaction's data rows and its queue row"
+abbrev left : Image
+left = meeting (clientsOf (three 0 4 0) (three 0 3 0) zeros (three 0 3 0) zeros zeros zeros) (dataRow 3 7 value ∷ [])
+
+-- "check commits above S for a shared cell"
+pub next-commit : check 0 met ≡ gives left (Conflict 1)
 unfolding check removed closed cleared bit member remove conflict clash wrote any isOwn commitOf above smallest lesser filter hasTag tagOf cellOf commitTag commitNumber number dataRow commitRow bytesOf
 next-commit = refl
+
+-- "Abandon removes the transaction's data rows and queue rows in one step"
+pub abandon-leaves : abandon 0 met ≡ gives left 2
+unfolding abandon removed closed cleared bit member remove filter hasTag tagOf number dataRow bytesOf
+abandon-leaves = refl
 
 -- document 02, 2: "Advance at stage 0 with nothing written now answers Done with the snapshot number and closes the transaction. Nothing enters a
 -- queue, and no number is taken", even with R and C used up: the last commit is 2, client 1's transaction 4 is under way, and client 0's
