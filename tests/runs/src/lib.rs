@@ -1,7 +1,9 @@
 //! Runs the step program on a script, and holds its output to the reference model and to the plain table, with the landed tickets in force.
 
+pub mod waits;
+
 use model::calls::Call;
-use model::check::check_under;
+use model::check::{check_under, Report};
 use model::coverage::Coverage;
 use model::forms::{form_text, lines, Form, Grammar};
 use model::gen::generate_under;
@@ -59,16 +61,22 @@ pub fn output(input: &[u8]) -> Vec<u8> {
     output_in_pieces(input, 1 << 20)
 }
 
-/// What the step program prints for a script: no difference from the model, nothing broken of the plain table.
-pub fn held(name: &str, script: &[u8]) -> Vec<u8> {
+/// What the step program prints for a script, and the checker's report: no difference from the model, nothing broken of the plain table or of the
+/// limit on rounds.
+pub fn reported(name: &str, script: &[u8]) -> (Vec<u8>, Report) {
     let printed = output(script);
     let report = check_under(grammar(), script, &printed);
-    for (judge, finding) in [("plain table", report.plain), ("model", report.model)] {
+    for (judge, finding) in [("plain table", &report.plain), ("model", &report.model)] {
         if let Some(finding) = finding {
             panic!("{name}, line {}: {judge}: {}", finding.line, finding.text);
         }
     }
-    printed
+    (printed, report)
+}
+
+/// What it prints, so held.
+pub fn held(name: &str, script: &[u8]) -> Vec<u8> {
+    reported(name, script).0
 }
 
 /// A generated script is answered line by line, and rightly. The coverage figures are handed back.
