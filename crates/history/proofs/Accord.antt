@@ -1,11 +1,12 @@
--- The words of specs/Rounds on one small run, computed: which lists of calls are rounds, and in which round a transaction is closed. In a store of
--- three rows clients 0 and 1 have written a cell each and entered the request queue; client 2 has begun and is at stage 0.
+-- The words of specs/Rounds in accord with document 02, 8: two laws of them, and one small run, computed, which shows what lists of calls are rounds,
+-- and in which round a transaction is closed. In it, in a store of three rows, clients 0 and 1 have written a cell each and entered the request
+-- queue; client 2 has begun and is at stage 0.
 -- Assumes nothing.
 use Prim.Native.Nat.{ℕ}
 use mathlib.Core.Path.{_≡_, refl, sym, ap, _∙_}
 use mathlib.Core.Logic.{_≢_, by-cases}
-use mathlib.Core.Bool.{true, false, false≢true}
-use mathlib.Core.List.{List, [], _∷_, flatten}
+use mathlib.Core.Bool.{Bool, true, false, _||_, false≢true}
+use mathlib.Core.List.{List, [], _∷_, _++_, flatten}
 use mathlib.Core.Option.{Option, none, some}
 use native.Mathlib.Decide.{ℕ-discrete}
 use native.Mathlib.Omega.{arith}
@@ -58,10 +59,50 @@ use Rattle.spec.specs.Steps.{
 use Rattle.spec.specs.declared.Progress.the-variants.{Conflict}
 use Rattle.spec.specs.Answers.{Answered}
 use Rattle.spec.specs.Bytes.{seen, storeOf, laidOut, known, fits, after, accepts, setUp}
-use Rattle.spec.specs.Run.{Call, Begin, Read, Write, Advance, Abandon, perform, Memory, memoryOf}
+use Rattle.spec.specs.Run.{Call, Begin, Read, Write, Advance, Abandon, perform, Memory, memoryOf, takes}
 use Rattle.spec.specs.Table.{Open, Table, blank, put, reaches, tell}
+use Rattle.spec.specs.Right.{tells}
 use Rattle.history.specs.Afterwards.{afterRun, tableAfter}
-use Rattle.history.specs.Rounds.{StillOpen, Closed, Abandoned, fateBy, fate, Queued, served, Round}
+use Rattle.history.specs.Rounds.{Fate, StillOpen, Closed, Abandoned, over, fateBy, first, fate, Queued, serves, served, Round}
+
+-- ---- laws
+
+-- the fate of a transaction that is over is decided by one call, before which it was open
+abbrev pub Decided : ℕ → Memory → List Call → Type 0
+Decided k m qs =
+    (before : List Call) × (q : Call) × (rest : List Call)
+    × (qs ≡ before ++ (q ∷ rest)) × (fate k m before ≡ StillOpen) × (fate k m qs ≡ fateBy k q (tells q (afterRun before m)))
+
+pub decided : (k : ℕ) (m : Memory) (qs : List Call) → over (fate k m qs) ≡ true → Decided k m qs
+decided k m [] h = absurd (false≢true h)
+decided k m (q ∷ qs) h = go (fateBy k q (tells q m)) refl h (decided k (memoryOf (takes q m)) qs)
+  where
+    next : Memory
+    next = memoryOf (takes q m)
+
+    by : {f : Fate} → fateBy k q (tells q m) ≡ f → (l : List Call) → fate k m (q ∷ l) ≡ first f (fate k next l)
+    by e l = ap (λ (f : Fate). first f (fate k next l)) e
+
+    go : (f : Fate) → fateBy k q (tells q m) ≡ f → over (first f (fate k next qs)) ≡ true
+        → (over (fate k next qs) ≡ true → Decided k next qs) → Decided k m (q ∷ qs)
+    go StillOpen e h rec =
+        let r = rec h in (q ∷ r .0, r .1, r .2, ap (λ (l : List Call). q ∷ l) (r .3), by e (r .0) ∙ r .4, by e qs ∙ r .5)
+    go Closed e h rec = ([], q, qs, refl, refl, by e qs ∙ sym e)
+    go Abandoned e h rec = ([], q, qs, refl, refl, by e qs ∙ sym e)
+
+-- a round may go on: what comes after all have been served does not unmake it
+pub longer : (m : Memory) (t : Table) (qs more : List Call) → Round m t qs → Round m t (qs ++ more)
+longer m t qs more r k q = go qs m (r k q)
+  where
+    one-or : (a b c : Bool) → (b ≡ true → c ≡ true) → (a || b) ≡ true → (a || c) ≡ true
+    one-or true b c f e = refl
+    one-or false b c f e = f e
+
+    go : (l : List Call) (m : Memory) → served k m l ≡ true → served k m (l ++ more) ≡ true
+    go [] m e = absurd (false≢true e)
+    go (c ∷ l) m e =
+        let n : Memory = memoryOf (takes c m) in
+        one-or (serves k c (tells c m)) (served k n l) (served k n (l ++ more)) (go l n) e
 
 -- ---- the run
 
@@ -102,7 +143,8 @@ unfolding
     flatten
     bit member insert remove size collect strike
     spliced number bytesOf dataRow tagOf cellOf commitRow commitNumber commitTag rowAt rowsIn rowsFrom laid filter hasTag
-    lesser smallest above upTo commitOf isOwn find versionOf newer seenAt newest ownOr lookFor valueIn valueOf any count wrote cellsOf shares clash conflict
+    lesser smallest above upTo commitOf isOwn find versionOf newer seenAt newest ownOr lookFor valueIn valueOf
+    any count wrote cellsOf shares clash conflict
     cleared closed empty begun begin read replaced added write removed abandon
     queued struck others goOn enter takeRequest listRequests looked lookRequests check takeCommit listCommits lookCommits addCommit
     leaveCommits leaveRequests finished advance

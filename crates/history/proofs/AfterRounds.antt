@@ -98,7 +98,8 @@ module _ {n : ℕ} where
   met {X} {Y} b kx ky hit s (c ∷ l) g o x d =
       go (serves b c (told-by c s)) refl d (met b kx ky hit (next s c) l (grows s c g (o .0)) (o .1) (kx s c g (o .0) x))
     where
-      go : (y : Bool) → serves b c (told-by c s) ≡ y → (y || meets b (next s c) l) ≡ true → (meets b (next s c) l ≡ true → Y (run (next s c) l)) → Y (run (next s c) l)
+      go : (y : Bool) → serves b c (told-by c s) ≡ y → (y || meets b (next s c) l) ≡ true
+          → (meets b (next s c) l ≡ true → Y (run (next s c) l)) → Y (run (next s c) l)
       go true e d rest = run-keeps ky (next s c) l (grows s c g (o .0)) (o .1) (hit s c g (o .0) x e)
       go false e d rest = rest d
 

@@ -159,7 +159,8 @@ module _ (s : State) (a : ℕ) where
   to : (k : ℕ) → k ≡ suc (s .cl a .stage) → k ≢ 2 → k ≢ 8 → k ≢ 4 → k ≢ 10 → k ≤ 13 → Up s a (atStage (s .cl a) k)
   to k e n2 n8 n4 n10 h =
       arm k _ _ _ _ (omega arith) (omega arith) h
-      (off (λ i. n2 (omega arith)) refl) (off (λ i. n8 (omega arith)) refl) (off (λ i. n4 (omega arith)) (λ _ z. z)) (off (λ i. n10 (omega arith)) (λ _ z. z))
+      (off (λ i. n2 (omega arith)) refl) (off (λ i. n8 (omega arith)) refl)
+      (off (λ i. n4 (omega arith)) (λ _ z. z)) (off (λ i. n10 (omega arith)) (λ _ z. z))
 
   looks-R : (k : ℕ) (w : ℕ → Bool) → s .cl a .stage ≡ 4 → 4 ≤ k → k ≤ 5 → ((x : ℕ) → w x ≡ true → s .cl a .rwait x ≡ true)
       → Up s a (withRwait (s .cl a) k w)
@@ -217,7 +218,8 @@ module _ (s : State) (idle : (b : ℕ) → s .cl b .number ≡ 0 → s .cl b .st
       let fewer : (x : ℕ) → w x ≡ true → s .cl a .rwait x ≡ true = look-fewer (rph s) (λ b. s .cl b .request) a (s .cl a .rwait) in
       ite-elim (Change s (Advance a)) (ℕ-discrete (count clients w) 0)
       (λ _. goes a _ (Answered (Stage 5)) (looks-R s a 5 w e (omega arith) (omega arith) fewer) (up (omega arith)) (omega arith) (omega arith))
-      (λ n. goes a _ (Answered (Waiting (count clients w))) (looks-R s a 4 w e (omega arith) (omega arith) fewer) (waits-R e n) (omega arith) (omega arith))
+      (λ n. goes a _ (Answered (Waiting (count clients w))) (looks-R s a 4 w e (omega arith) (omega arith) fewer) (waits-R e n)
+      (omega arith) (omega arith))
 
   looked-C : (a : ℕ) → s .cl a .stage ≡ 10 → Change s (Advance a) (lookC s a (look (cph s) (λ b. s .cl b .commit) a (s .cl a .cwait)))
   unfolding lookC
@@ -226,7 +228,8 @@ module _ (s : State) (idle : (b : ℕ) → s .cl b .number ≡ 0 → s .cl b .st
       let fewer : (x : ℕ) → w x ≡ true → s .cl a .cwait x ≡ true = look-fewer (cph s) (λ b. s .cl b .commit) a (s .cl a .cwait) in
       ite-elim (Change s (Advance a)) (ℕ-discrete (count clients w) 0)
       (λ _. goes a _ (Answered (Stage 11)) (looks-C s a 11 w e (omega arith) (omega arith) fewer) (up (omega arith)) (omega arith) (omega arith))
-      (λ n. goes a _ (Answered (Waiting (count clients w))) (looks-C s a 10 w e (omega arith) (omega arith) fewer) (waits-C e n) (omega arith) (omega arith))
+      (λ n. goes a _ (Answered (Waiting (count clients w))) (looks-C s a 10 w e (omega arith) (omega arith) fewer) (waits-C e n)
+      (omega arith) (omega arith))
 
   finished : (a : ℕ) (d : List DRow) (x : Answer Progress) → over (advanced x) ≡ true → Change s (Advance a) (out (leave s a d) x)
   finished a d x e =
@@ -286,7 +289,8 @@ module _ (s : State) (idle : (b : ℕ) → s .cl b .number ≡ 0 → s .cl b .st
 
 -- ---- what goes by the four
 
-pub effect : {s : State} → ((b : ℕ) → s .cl b .number ≡ 0 → s .cl b .stage ≡ 0) → {q : Call} {o : Out (Answer (Told q))} → Change s q o → Effect q s (o .state)
+pub effect : {s : State} → ((b : ℕ) → s .cl b .number ≡ 0 → s .cl b .stage ≡ 0) → {q : Call} {o : Out (Answer (Told q))} → Change s q o
+    → Effect q s (o .state)
 effect {s} idle (rests t e w r c n k) = quiet s t e w r c
 effect {s} idle (starts a h was) = opens s a h (idle a was)
 effect {s} idle (moves a c x f R C last m u v l tame out lr lc) = ups u f tame out R C last (s .dat) m lr lc

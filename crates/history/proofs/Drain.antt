@@ -166,7 +166,8 @@ module _ {n : ℕ} {q : Side} (line : Line n q) where
       stable : Stable n (Passes b m)
       stable s c g o y = (λ x. seen-stable b m 3 x s c g o (y .0 x), least-stable m s c g o (y .1))
 
-      larger : (s : Image) → Grown n s → Holds q b m s → Passes b m s → (x : ℕ) → list q s b x ≡ true → (3 ≤ phase q s x) × (number q s b < number q s x)
+      larger : (s : Image) → Grown n s → Holds q b m s → Passes b m s → (x : ℕ) → list q s b x ≡ true
+          → (3 ≤ phase q s x) × (number q s b < number q s x)
       larger s g h y x e =
           let z = y .0 x .1 h in let k = z .1 e in let j = y .1 .1 x (omega arith) in let v = line .listed s g b x (z .0) e in
           let d = line .apart s g x b (v .1) (omega arith) (h .0) in (k, omega arith)

@@ -85,7 +85,8 @@ pub record Same (c d : Client) : Type 0 where
   pub request : 2 ≤ c .stage → d .request ≡ c .request
   pub commit : 8 ≤ c .stage → d .commit ≡ c .commit
 
-pub same-after : {n : ℕ} (s : Image) (c : Call) → Grown n s → Below n c → (b : ℕ) → 2 ≤ client (next s c) b .stage → Same (client s b) (client (next s c) b)
+pub same-after : {n : ℕ} (s : Image) (c : Call) → Grown n s → Below n c → (b : ℕ) → 2 ≤ client (next s c) b .stage
+    → Same (client s b) (client (next s c) b)
 same-after s c g o b h =
     let k = does s g c .keep b in
     let e = k .alive h in

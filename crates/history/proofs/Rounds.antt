@@ -147,7 +147,8 @@ module _ {n : ℕ} where
       let t : ℕ = client s b .number in
       let p : 1 ≤ t = is-open s g b h in
       let names = each-named n rounds below in
-      let z = over-in-time n b t p (length rounds) long s g (inv s g .tab .mine b p .num-le, λ _. h) .at rounds refl names (rounds-on s rounds g names rs) in
+      let x = over-in-time n b t p (length rounds) long s g (inv s g .tab .mine b p .num-le, λ _. h) in
+      let z = x .at rounds refl names (rounds-on s rounds g names rs) in
       let e = fate-as b s (flatten rounds) g below in
       e ∙ ended b t s (flatten rounds) g below refl h
       (λ i. z .1 (ap (λ (u : Image). client u b .number) (sym (run-joined s rounds)) ∙ i)) (λ i. a (e ∙ i))
@@ -197,7 +198,8 @@ module _ (d c : List ℕ) (w l : ℕ) (lw : w ≤ 4294967295) (qs : List Call) (
   unfolding start
   from-set-up = go (accepts (length d) (length c) w l) refl
     where
-      go : (b : Bool) → accepts (length d) (length c) w l ≡ b → X (afterRun qs (memoryOf (setUp d c w l))) (tableAfter qs (memoryOf (setUp d c w l)) blank)
+      go : (b : Bool) → accepts (length d) (length c) w l ≡ b
+          → X (afterRun qs (memoryOf (setUp d c w l))) (tableAfter qs (memoryOf (setUp d c w l)) blank)
       go true e =
           let a = accepted (length d) (length c) w l e in
           let s : Image = bridge.first d w l in
@@ -226,19 +228,24 @@ module _ (d c : List ℕ) (w l : ℕ) (lw : w ≤ 4294967295) (qs : List Call) w
 
   pub rounds-exist : RoundsExist (memoryOf (setUp d c w l)) qs
   rounds-exist n below = (
-    own-turns n n (omega arith),
+    turns-below n n (omega arith),
     from-set-up d c w l lw qs n below (λ m t. Round m t (inTurn n))
         (λ s g k q. has-turn n k (whole s) (is-below s g k (in-queue s g k q))) (λ m t h k q. absurd (h k q)),
   )
     where
-      own-turns : (n k : ℕ) → k ≤ n → AllBelow n (inTurn k)
-      own-turns n zero h = tt
-      own-turns n (suc k) h = (λ j e _. omega (arith, same-some e), own-turns n k (omega arith))
+      turns-below : (n k : ℕ) → k ≤ n → AllBelow n (inTurn k)
+      turns-below n zero h = tt
+      turns-below n (suc k) h = (λ j e _. omega (arith, same-some e), turns-below n k (omega arith))
+
+      own-turn : (n k : ℕ) (x : Memory) → n ≡ k → served k x (inTurn (suc n)) ≡ true
+      own-turn n k x e =
+          ap (λ (y : Bool). (y || over (fateBy k (Advance n) (tells (Advance n) x))) || served k (memoryOf (takes (Advance n) x)) (inTurn n))
+          (eq-eqb n k e)
 
       has-turn : (n k : ℕ) (x : Memory) → k < n → served k x (inTurn n) ≡ true
       has-turn zero k x h = absurd (omega arith)
       has-turn (suc n) k x h =
           by-cases (ℕ-discrete n k)
-          (λ e. ap (λ (y : Bool). (y || over (fateBy k (Advance n) (tells (Advance n) x))) || served k (memoryOf (takes (Advance n) x)) (inTurn n)) (eq-eqb n k e))
+          (own-turn n k x)
           (λ e. ap (λ (y : Bool). serves k (Advance n) (tells (Advance n) x) || y) (has-turn n k _ (omega (arith, e)))
           ∙ or-true (serves k (Advance n) (tells (Advance n) x)))

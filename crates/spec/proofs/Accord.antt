@@ -139,7 +139,9 @@ entering stages blockers ahead =
 
 -- client 0 has client 1 on its list, which has noted its number: it is struck, and client 2, entered since, does not come in
 pub larger-struck : lookRequests 0 (entering (three 4 3 1) (three 2 0 0) zeros) ≡ gives (entering (three 5 3 1) zeros zeros) (Stage 5)
-unfolding lookRequests looked goOn struck queued strike bit member remove insert size collect others shares any wrote isOwn hasTag tagOf cellOf number dataRow bytesOf
+unfolding
+    lookRequests looked goOn struck queued strike bit member remove insert size collect others
+    shares any wrote isOwn hasTag tagOf cellOf number dataRow bytesOf
 larger-struck = refl
 
 pub larger-commit-struck : lookCommits 0 (entering (three 10 9 7) zeros (three 2 0 0)) ≡ gives (entering (three 11 9 7) zeros zeros) (Stage 11)
@@ -169,7 +171,9 @@ left = meeting (clientsOf (three 0 4 0) (three 0 3 0) zeros (three 0 3 0) zeros 
 
 -- "check commits above S for a shared cell"
 pub next-commit : check 0 met ≡ gives left (Conflict 1)
-unfolding check removed closed cleared bit member remove conflict clash wrote any isOwn commitOf above smallest lesser filter hasTag tagOf cellOf commitTag commitNumber number dataRow commitRow bytesOf
+unfolding
+    check removed closed cleared bit member remove conflict clash wrote any isOwn commitOf above smallest lesser filter
+    hasTag tagOf cellOf commitTag commitNumber number dataRow commitRow bytesOf
 next-commit = refl
 
 -- "Abandon removes the transaction's data rows and queue rows in one step"
