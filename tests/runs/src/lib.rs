@@ -79,12 +79,12 @@ pub fn held(name: &str, script: &[u8]) -> Vec<u8> {
     reported(name, script).0
 }
 
-/// A generated script is answered line by line, and rightly. The coverage figures are handed back.
-pub fn generated(seed: u64, lines: usize, profile: &str) -> Coverage {
+/// A generated script is answered line by line, and rightly. The coverage figures are handed back, and the longest wait in rounds with its limit.
+pub fn generated(seed: u64, lines: usize, profile: &str) -> (Coverage, (u64, u64)) {
     let script = generate_under(grammar(), seed, lines, profile).expect("a profile of the generator");
-    let printed = held(&format!("{profile} {seed}"), &script.text);
+    let (printed, report) = reported(&format!("{profile} {seed}"), &script.text);
     assert_eq!(printed.iter().filter(|byte| **byte == b'\n').count(), lines);
-    script.coverage
+    (script.coverage, report.longest_wait)
 }
 
 /// A script with 16 for 0 as the cell limit of its set-ups, and not a byte else changed.

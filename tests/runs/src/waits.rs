@@ -1,9 +1,8 @@
 //! Document 02, 8: the longest waits, in rounds, that schedules bring about, beside the limit of 4 × n × n + 32.
 
-use crate::{grammar, reported};
+use crate::{generated, grammar, reported};
 use model::calls::Call;
 use model::forms::{form_text, Form};
-use model::gen::generate_under;
 use model::session::Session;
 use std::cmp::Reverse;
 
@@ -29,14 +28,14 @@ pub fn chained(clients: u32) -> Vec<u8> {
     let mut chain: Vec<u32> = (0..clients).collect();
     while !chain.is_empty() {
         if chain.iter().any(|client| schedule.stage(*client) == Some(7)) {
-            for client in (0..clients).filter(|client| !chain.contains(client) && schedule.stage(*client) == Some(0)).collect::<Vec<_>>() {
+            for client in schedule.at(clients, Some(0)) {
                 (0..8).for_each(|_| schedule.advance(client));
             }
         }
         for client in schedule.queued(clients) {
             schedule.advance(client);
         }
-        for client in (0..clients).filter(|client| schedule.stage(*client).is_none()).collect::<Vec<_>>() {
+        for client in schedule.at(clients, None) {
             chain.retain(|other| *other != client);
             schedule.begin(client, &[500 + client]);
         }
@@ -72,6 +71,11 @@ impl Schedule {
         self.session.store().stage(client)
     }
 
+    /// The clients at a stage, or those that are closed.
+    fn at(&self, clients: u32, stage: Option<u8>) -> Vec<u32> {
+        (0..clients).filter(|client| self.stage(*client) == stage).collect()
+    }
+
     /// The clients at stages 1 to 13, larger numbers first.
     fn queued(&self, clients: u32) -> Vec<u32> {
         let open = &self.session.store().open;
@@ -79,11 +83,6 @@ impl Schedule {
         queued.sort_by_key(|client| Reverse((open[client].commit, open[client].request)));
         queued
     }
-}
-
-/// The longest wait in a run of the step program, and the limit that it had to keep. The run is held to the model, the plain table and the limit.
-fn longest(name: &str, script: &[u8]) -> (u64, u64) {
-    reported(name, script).1.longest_wait
 }
 
 /// What the proof needs, with n clients: `over-in-time` in crates/history/proofs/Ending.antt.
@@ -99,18 +98,18 @@ fn with_comma(number: u64) -> String {
     }
 }
 
-/// Two tables for docs/WAITING.md: by the number of clients, on chained schedules; and by the generator's profile, with all 32.
+/// Two tables for docs/WAITING.md: by the number of clients, on chained schedules; and by the generator's profile, with all 32. All runs are held to the
+/// model, the plain table and the limit.
 pub fn tables() -> (String, String) {
     let mut chains = String::from("| boxes | longest wait seen | what the proof needs | limit |\n|---:|---:|---:|---:|\n");
     for clients in [1, 2, 4, 8, 16, 32] {
-        let (seen, limit) = longest("chained", &chained(clients));
+        let (seen, limit) = reported("chained", &chained(clients)).1.longest_wait;
         let [seen, proved, limit] = [seen, proved(u64::from(clients)), limit].map(with_comma);
         chains += &format!("| {clients} | {seen} | {proved} | {limit} |\n");
     }
     let mut profiles = String::from("| generated schedules | longest wait seen | limit |\n|---|---:|---:|\n");
     for profile in ["rounds", "contended", "mixed"] {
-        let of_seed = |seed| longest(profile, &generate_under(grammar(), seed, LINES, profile).expect("a profile of the generator").text);
-        let (seen, limit) = SEEDS.map(of_seed).max().expect("some seeds");
+        let (seen, limit) = SEEDS.map(|seed| generated(seed, LINES, profile).1).max().expect("some seeds");
         profiles += &format!("| `{profile}` | {} | {} |\n", with_comma(seen), with_comma(limit));
     }
     (chains, profiles)

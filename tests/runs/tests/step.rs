@@ -140,7 +140,7 @@ fn every_profile_against_model_and_plain_table() {
 /// answer and a Done without a change occur in one of them.
 #[test]
 fn all_is_covered() {
-    let runs: Vec<Coverage> = SEEDS.map(|seed| generated(seed, LINES, "all")).collect();
+    let runs: Vec<Coverage> = SEEDS.map(|seed| generated(seed, LINES, "all").0).collect();
     let mut gaps = runs[0].gaps();
     gaps.retain(|name| runs.iter().all(|run| run.of(name) == 0));
     assert_eq!(gaps, ["refusal 12"]);

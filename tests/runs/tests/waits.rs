@@ -2,7 +2,7 @@
 
 use model::check::check_under;
 use runs::waits::{chained, tables};
-use runs::{grammar, output};
+use runs::{grammar, output, reported};
 use std::fs;
 
 /// The page for lane owners shows what is measured.
@@ -35,9 +35,8 @@ fn a_wait_over_the_limit_is_found() {
 /// A chain of all clients keeps the last one waiting for more than half of n × n rounds.
 #[test]
 fn chains_are_long() {
-    for clients in [8u64, 16, 32] {
-        let script = chained(clients as u32);
-        let report = check_under(grammar(), &script, &output(&script));
-        assert!(report.longest_wait.0 > clients * clients / 2, "{clients}: {:?}", report.longest_wait);
+    for clients in [8, 16, 32] {
+        let longest = reported("chained", &chained(clients)).1.longest_wait;
+        assert!(longest.0 > u64::from(clients * clients / 2), "{clients}: {longest:?}");
     }
 }
