@@ -144,11 +144,11 @@ pub record Demand3 (d c : List ℕ) (w l : ℕ) (qs : List Call) : Type 0 where
   pub capped : Capped (limitOf l) (tableAfter qs (memoryOf (setUp d c w l)) blank)
   -- document 02, 8: "a transaction that has entered the request queue and isn't abandoned is closed, Done or Conflict, within 4 × n × n + 32
   -- rounds", where "only clients below n are named"
-  pub waits : NobodyWaits (memoryOf (setUp d c w l)) qs
+  pub nobodyWaits : NobodyWaits (memoryOf (setUp d c w l)) qs
   -- "4,128 for 32", "whatever else is begun, written, abandoned or trimmed meanwhile": whatever the calls are
-  pub anyCalls : WhoeverCalls (memoryOf (setUp d c w l)) qs
+  pub whoeverCalls : WhoeverCalls (memoryOf (setUp d c w l)) qs
   -- and there are rounds, after every list of calls
-  pub rounds : RoundsExist (memoryOf (setUp d c w l)) qs
+  pub roundsExist : RoundsExist (memoryOf (setUp d c w l)) qs
   -- "Refusal by operation": a refused call gets one of the numbers listed for it; 11 is in no list: it "never occurs any more" (document 02, 2)
   pub listed : AllListed (memoryOf (setUp d c w l)) qs
   -- "after a refused one every call gets 2"
