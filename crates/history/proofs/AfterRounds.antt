@@ -48,7 +48,7 @@ abbrev pub Hit : ℕ → ℕ → (Image → Type 0) → (Image → Type 0) → T
 Hit n b X Y = (s : Image) (c : Call) → Grown n s → Below n c → X s → serves b c (told-by c s) ≡ true → Y (next s c)
 
 module _ {n : ℕ} where
-  pub run-grown : (s : Image) (l : List Call) → Grown n s → AllBelow n l → Grown n (run s l)
+  run-grown : (s : Image) (l : List Call) → Grown n s → AllBelow n l → Grown n (run s l)
   run-grown s [] g o = g
   run-grown s (c ∷ l) g o = run-grown (next s c) l (grows s c g (o .0)) (o .1)
 

@@ -85,7 +85,7 @@ module _ {n : ℕ} {q : Side} (line : Line n q) where
       → Holds q b m s × (phase q s b ≤ phase q (next s c) b)
   held s c g b m l h = let t = line .tick s c g .back b (h .0) (omega arith) in ((t .0, sym (t .1) ∙ h .1), t .2)
 
-  pub far-stable : (b m k : ℕ) → Stable n (Far q b m k)
+  far-stable : (b m k : ℕ) → Stable n (Far q b m k)
   far-stable b m k s c g o x =
       (omega (arith, counts s c g, x .0), λ h. let w = held s c g b m (x .0) h in let y = x .1 (w .0) in omega arith)
 
@@ -184,7 +184,7 @@ module _ {n : ℕ} {q : Side} (line : Line n q) where
   -- ---- all of them, one after the other
 
   -- who is in the queue is below n, so at most n - 1 are ahead of it
-  pub in-line : (s : Image) → Grown n s → (b : ℕ) → 2 ≤ phase q s b → b < n
+  in-line : (s : Image) → Grown n s → (b : ℕ) → 2 ≤ phase q s b → b < n
   in-line s g b h = is-below s g b (line .within s g b (omega arith))
 
   pub ahead-less : (s : Image) → Grown n s → (b m : ℕ) → Holds q b m s → suc (ahead n q s m) ≤ n

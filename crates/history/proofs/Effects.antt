@@ -108,7 +108,7 @@ module _ (q : Side) (cl : ℕ → Client) (a : ℕ) (c : Client) (f : Client →
             (λ k. omega (arith, phase-at))
             (λ k. absurd (t .clears (omega arith) (cl b) (list-off b a n (ap (listOf q cl′ b) (sym i) ∙ e))))
 
-    pub tick : Tick q cl ctr cl′ ctr′
+    tick : Tick q cl ctr cl′ ctr′
     tick = record {
       counter = le;
       back = each a Back
@@ -134,7 +134,7 @@ module _ (q : Side) (cl : ℕ → Client) (a : ℕ) (c : Client) (f : Client →
             (let z = o .back (omega (arith, phase-at)) (omega (arith, number-at)) .2 in omega (arith, phase-at)))
             (λ m. omega (arith, phase-off x m))
 
-    pub still-listed : Listed q cl → Listed q cl′
+    still-listed : Listed q cl → Listed q cl′
     still-listed was =
         each a (λ b. (x : ℕ) → 4 ≤ phaseOf q cl′ b → listOf q cl′ b x ≡ true → (1 ≤ phaseOf q cl′ x) × (x ≢ b))
         (λ x h e. elim (o .made x (omega (arith, phase-at)) (list-at x e)) [
@@ -179,7 +179,7 @@ abbrev pub after : State → ℕ → ℕ → ℕ → ℕ → List DRow → List 
 after s W R C last d m cl = record { bounds = s .bounds; W = W; R = R; C = C; last = last; dat = d; comm = m; cl = cl }
 
 module _ (s : State) (a : ℕ) (c : Client) (f : Client → Client) (tame : Tame a f) where
-  pub acts : {k : Call}
+  acts : {k : Call}
       → (rphase (c .stage) < rphase (s .cl a .stage) → (d : Client) → f d .rwait a ≡ true → ⊥)
       → (cphase (c .stage) < cphase (s .cl a .stage) → (d : Client) → f d .cwait a ≡ true → ⊥)
       → Own requests (s .cl) a c f (s .R) → Own commits (s .cl) a c f (s .C) → Keep k a (s .W) (s .cl a) c

@@ -34,7 +34,7 @@ in-R k h = omega arith
 in-C : (k : ℕ) → 1 ≤ cphase k → (7 ≤ k) × (k ≤ 12) × (cphase k ≡ min (k - 6) 5)
 in-C k h = elim (phases k) [ inl x ↦ (omega (arith, x .1), x .0, x .1) | inr x ↦ absurd (omega (arith, x .1)) ]
 
-pub line-R : (n : ℕ) → Line n requests
+line-R : (n : ℕ) → Line n requests
 unfolding rphase
 line-R n = record {
   tick = λ s c g. does s g c .tick-R;
@@ -63,7 +63,7 @@ up-C j k e h l = let z = in-C j h in elim (phases k) [ inl x ↦ omega (arith, x
 out-C : (k : ℕ) → k ≡ 0 → cphase k ≡ 0
 out-C k e = elim (phases k) [ inl x ↦ omega (arith, x .1) | inr x ↦ x .1 ]
 
-pub line-C : (n : ℕ) → Line n commits
+line-C : (n : ℕ) → Line n commits
 line-C n = record {
   tick = λ s c g. does s g c .tick-C;
   bound = λ s g. inv s g .cq .bound;
