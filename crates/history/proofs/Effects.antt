@@ -147,14 +147,18 @@ module _ (q : Side) (cl : ℕ → Client) (a : ℕ) (c : Client) (f : Client →
 
 -- ---- both queues, and the transaction
 
--- of client b, from c to d by call k: a closed one is opened by its Begin alone; while it has its number it keeps request and commit number,
--- and its stage does not fall
+-- d is what c was, and no less far; what numbers it had it has
+pub record Same (c d : Client) : Type 0 where
+  pub number : d .number ≡ c .number
+  pub stage : c .stage ≤ d .stage
+  pub request : 2 ≤ c .stage → d .request ≡ c .request
+  pub commit : 8 ≤ c .stage → d .commit ≡ c .commit
+
+-- client b, from c to d by call k: a closed one is opened by its Begin alone, and who has a number that was issued before is the same
 pub record Keep (k : Call) (b W : ℕ) (c d : Client) : Type 0 where
   pub shut : c .number ≡ 0 → (d .number ≡ 0) ⊎ ((k ≡ Begin b) × (b < clients))
   pub alive : 2 ≤ d .stage → d .number ≡ c .number
-  pub held : 1 ≤ d .number → d .number ≤ W
-      → (d .number ≡ c .number) × (c .stage ≤ d .stage)
-      × (2 ≤ c .stage → d .request ≡ c .request) × (8 ≤ c .stage → d .commit ≡ c .commit)
+  pub held : 1 ≤ d .number → d .number ≤ W → Same c d
 
 pub record Effect (k : Call) (s t : State) : Type 0 where
   pub tick-R : Tick requests (s .cl) (s .R) (t .cl) (t .R)
@@ -171,7 +175,7 @@ quiet s t e w r c = record {
   tick-C = rw (e, c) same-tick;
   lists-R = rw e (λ h. h);
   lists-C = rw e (λ h. h);
-  keep = λ b. rw e record { shut = inl; alive = λ _. refl; held = λ _ _. (refl, omega arith, λ _. refl, λ _. refl) };
+  keep = λ b. rw e record { shut = inl; alive = λ _. refl; held = λ _ _. record { number = refl; stage = omega arith; request = λ _. refl; commit = λ _. refl } };
   begun = omega arith;
 }
 
@@ -205,7 +209,12 @@ module _ (s : State) (a : ℕ) (c : Client) (f : Client → Client) (tame : Tame
       kept b = record {
         shut = λ e. inl (tame .number (s .cl b) ∙ e);
         alive = λ _. tame .number (s .cl b);
-        held = λ _ _. (tame .number (s .cl b), omega (arith, tame .stage (s .cl b)), λ _. tame .request (s .cl b), λ _. tame .commit (s .cl b));
+        held = λ _ _. record {
+          number = tame .number (s .cl b);
+          stage = omega (arith, tame .stage (s .cl b));
+          request = λ _. tame .request (s .cl b);
+          commit = λ _. tame .commit (s .cl b);
+        };
       }
 
 -- a client that comes out without a number, in either queue
@@ -291,7 +300,12 @@ module _ {s : State} {a : ℕ} {c : Client} (u : Up s a c) (f : Client → Clien
   up-keep = record {
     shut = λ e. inl (u .number ∙ e);
     alive = λ _. u .number;
-    held = λ _ _. (u .number, u .low, λ h. u .request .0 (λ e. omega arith), λ h. u .commit .0 (λ e. omega arith));
+    held = λ _ _. record {
+      number = u .number;
+      stage = u .low;
+      request = λ h. u .request .0 (λ e. omega arith);
+      commit = λ h. u .commit .0 (λ e. omega arith);
+    };
   }
 
   -- it goes back in no queue, but out of the commit queue at stage 13

@@ -46,21 +46,21 @@ module _ (n b t : ℕ) (pos : 1 ≤ t) where
   over-stable : Stable n (Over b t)
   over-stable s c g o x =
       let k = does s g c in
-      (omega (arith, k .begun), λ e. x .1 (sym (k .keep b .held (omega arith) (omega (arith, x .0)) .0) ∙ e))
+      (omega (arith, k .begun), λ e. x .1 (sym (k .keep b .held (omega arith) (omega (arith, x .0)) .number) ∙ e))
 
   past-stable : (j : ℕ) → Stable n (Past b t j)
   past-stable j s c g o x =
       let k = does s g c in (
         omega (arith, k .begun),
-        λ e. let z = k .keep b .held (omega arith) (omega (arith, x .0)) in let y = x .1 (sym (z .0) ∙ e) in omega (arith, z .1),
+        λ e. let z = k .keep b .held (omega arith) (omega (arith, x .0)) in let y = x .1 (sym (z .number) ∙ e) in omega (arith, z .stage),
       )
 
   asks-stable : (m : ℕ) → Stable n (Asks b t m)
   asks-stable m s c g o x =
       let k = does s g c in (
         omega (arith, k .begun),
-        λ e. let z = k .keep b .held (omega arith) (omega (arith, x .0)) in let y = x .1 (sym (z .0) ∙ e) in
-            (omega (arith, z .1, y .0), z .2 (y .0) ∙ y .1),
+        λ e. let z = k .keep b .held (omega arith) (omega (arith, x .0)) in let y = x .1 (sym (z .number) ∙ e) in
+            (omega (arith, z .stage, y .0), z .request (y .0) ∙ y .1),
       )
 
   -- a round to the request number
@@ -75,11 +75,11 @@ module _ (n b t : ℕ) (pos : 1 ≤ t) where
           let k = does s g c in (
             omega (arith, k .begun),
             λ e. let z = k .keep b .held (omega arith) (omega (arith, x .0)) in
-                elim (gets s g c b d (x .1 (sym (z .0) ∙ e))) [
-                  | goes-up i l ↦ let y = x .1 (sym (z .0) ∙ e) in omega arith
-                  | goes-out i ↦ absurd (let y = x .1 (sym (z .0) ∙ e) in omega (arith, z .1))
-                  | stays-R i f ↦ omega (arith, z .1)
-                  | stays-C i f ↦ omega (arith, z .1)
+                elim (gets s g c b d (x .1 (sym (z .number) ∙ e))) [
+                  | goes-up i l ↦ let y = x .1 (sym (z .number) ∙ e) in omega arith
+                  | goes-out i ↦ absurd (let y = x .1 (sym (z .number) ∙ e) in omega (arith, z .stage))
+                  | stays-R i f ↦ omega (arith, z .stage)
+                  | stays-C i f ↦ omega (arith, z .stage)
                 ],
           )
 

@@ -18,7 +18,7 @@ use Rattle.spec.proofs.Does.{seenAs}
 use Rattle.spec.proofs.Demand.{Good, took, good-next, told-by}
 use Rattle.history.specs.Rounds as calls
 use Rattle.history.specs.Rounds.{Below, serves}
-use Rattle.history.proofs.Effects.{requests, commits, Listed, Effect}
+use Rattle.history.proofs.Effects.{requests, commits, Listed, Same, Effect}
 use Rattle.history.proofs.Changes.{Change, change, effect, Brings, served-by}
 
 -- what call c leaves of image s
@@ -78,13 +78,7 @@ pub grows-table : {n : ℕ} (s : Image) (c : Call) (g : Grown n s) (o : Below n 
 unfolding grows
 grows-table s c g o = refl
 
--- a transaction at stage 2 or later after a call is the one before it, and no less far; what numbers it had it has
-pub record Same (c d : Client) : Type 0 where
-  pub number : d .number ≡ c .number
-  pub stage : c .stage ≤ d .stage
-  pub request : 2 ≤ c .stage → d .request ≡ c .request
-  pub commit : 8 ≤ c .stage → d .commit ≡ c .commit
-
+-- a transaction at stage 2 or later after a call is the one before it
 pub same-after : {n : ℕ} (s : Image) (c : Call) → Grown n s → Below n c → (b : ℕ) → 2 ≤ client (next s c) b .stage
     → Same (client s b) (client (next s c) b)
 same-after s c g o b h =
@@ -92,5 +86,4 @@ same-after s c g o b h =
     let e = k .alive h in
     let p = is-open (next s c) (grows s c g o) b (omega arith) in
     let w = inv s g .tab .mine b (omega arith) .num-le in
-    let z = k .held p (omega arith) in
-    record { number = z .0; stage = z .1; request = z .2; commit = z .3 }
+    k .held p (omega arith)
