@@ -58,7 +58,7 @@ fn scripts_of_tickets() {
 #[test]
 fn examples() {
     let (all, other) = scripts("../../examples", "txt");
-    assert!(all >= 7);
+    assert!(all >= 8);
     assert!(other.is_empty(), "{other:?}");
 }
 
