@@ -3,6 +3,7 @@
 #   make test   runs all tests; its last line is 'N passed, 0 failed'
 # Further:
 #   make soak LINES=.. SEEDS=..   longer generated runs against the model
+#   make waits                    the longest waits seen, as the tables of docs/WAITING.md show them
 #   make bench                    instructions and times against hand-written Rust (needs valgrind)
 #   make peers                    the same work on SQLite and LMDB, where their packages are installed
 #   make outputs                  what the model prints for the examples and for the stored runs, written anew beside them
@@ -15,7 +16,7 @@ TICKETS = $(shell cat tests/tickets)
 # the landed tickets but 9: the tournament desk's stored runs are those of before it
 BEFORE_9 = $(shell tr , '\n' <tests/tickets | grep -vx 9 | paste -sd, -)
 
-.PHONY: run test build soak bench peers outputs
+.PHONY: run test build soak waits bench peers outputs
 
 run: build
 	target/bin/step <$(EXAMPLE)
@@ -28,6 +29,9 @@ build:
 
 soak: build
 	$(CARGO) run --release --offline --manifest-path tests/runs/Cargo.toml --bin soak -- $(LINES) $(SEEDS)
+
+waits: build
+	$(CARGO) run --release --offline --manifest-path tests/runs/Cargo.toml --bin waits
 
 bench: build
 	tests/bench.sh

@@ -77,7 +77,7 @@ abbrev pub ahead : ℕ → Side → Image → ℕ → ℕ
 ahead n q s m = sum n (λ b. one (ahead? q s m b))
 
 module _ {n : ℕ} {q : Side} (line : Line n q) where
-  counts : (s : Image) (c : Call) → Grown n s → counter q s ≤ counter q (next s c)
+  pub counts : (s : Image) (c : Call) → Grown n s → counter q s ≤ counter q (next s c)
   counts s c g = line .tick s c g .counter
 
   -- who holds a number after a call held it before, and is no less far

@@ -44,12 +44,16 @@ listOf q cl b = q .list (cl b)
 abbrev pub Listed : Side → (ℕ → Client) → Type 0
 Listed q cl = (b x : ℕ) → 4 ≤ phaseOf q cl b → listOf q cl b x ≡ true → (1 ≤ phaseOf q cl x) × (x ≢ b)
 
--- one call, from clients cl and counter ctr to cl′ and ctr′: who has a number that was taken before had it before, and is no less far; its list
--- has not grown, and who is on it is no less far either
+-- a client, from c to d: if it has a number that was taken before, it had it before, and is no less far
+abbrev pub Back : Side → ℕ → Client → Client → Type 0
+Back q ctr c d =
+    2 ≤ q .phase (d .stage) → q .number d ≤ ctr
+    → (2 ≤ q .phase (c .stage)) × (q .number d ≡ q .number c) × (q .phase (c .stage) ≤ q .phase (d .stage))
+
+-- one call, from clients cl and counter ctr to cl′ and ctr′: of who has such a number, the list has not grown either, and who is on it is no less far
 pub record Tick (q : Side) (cl : ℕ → Client) (ctr : ℕ) (cl′ : ℕ → Client) (ctr′ : ℕ) : Type 0 where
   pub counter : ctr ≤ ctr′
-  pub back : (b : ℕ) → 2 ≤ phaseOf q cl′ b → numberOf q cl′ b ≤ ctr
-      → (2 ≤ phaseOf q cl b) × (numberOf q cl′ b ≡ numberOf q cl b) × (phaseOf q cl b ≤ phaseOf q cl′ b)
+  pub back : (b : ℕ) → Back q ctr (cl b) (cl′ b)
   pub lists : (b x : ℕ) → 4 ≤ phaseOf q cl b → 2 ≤ phaseOf q cl′ b → numberOf q cl′ b ≤ ctr → listOf q cl′ b x ≡ true
       → (listOf q cl b x ≡ true) × (phaseOf q cl x ≤ phaseOf q cl′ x)
 
@@ -61,8 +65,7 @@ same-tick = record { counter = omega arith; back = λ b h l. (h, refl, omega ari
 module _ (q : Side) (cl : ℕ → Client) (a : ℕ) (c : Client) (f : Client → Client) where
   -- of its own change: it keeps its number or takes a new one, and makes its list anew at most once
   pub record Own (ctr : ℕ) : Type 0 where
-    pub back : 2 ≤ q .phase (c .stage) → q .number c ≤ ctr
-        → (2 ≤ phaseOf q cl a) × (q .number c ≡ numberOf q cl a) × (phaseOf q cl a ≤ q .phase (c .stage))
+    pub back : Back q ctr (cl a) c
     pub lists : (x : ℕ) → 4 ≤ phaseOf q cl a → 2 ≤ q .phase (c .stage) → q .list c x ≡ true → listOf q cl a x ≡ true
     pub made : (x : ℕ) → 4 ≤ q .phase (c .stage) → q .list c x ≡ true → (4 ≤ phaseOf q cl a) ⊎ ((1 ≤ phaseOf q cl x) × (x ≢ a))
 
@@ -111,18 +114,14 @@ module _ (q : Side) (cl : ℕ → Client) (a : ℕ) (c : Client) (f : Client →
     tick : Tick q cl ctr cl′ ctr′
     tick = record {
       counter = le;
-      back = each a Back
-          (λ h l. let z = o .back (omega (arith, phase-at)) (omega (arith, number-at)) in (z .0, number-at ∙ z .1, omega (arith, phase-at, z .2)))
+      back = each a (λ b. Back q ctr (cl b) (cl′ b))
+          (subst (Back q ctr (cl a)) (sym (put-at a c f cl)) (o .back))
           (λ b n h l. (omega (arith, phase-off b n), number-off b n, omega (arith, phase-off b n)));
       lists = each a Lists
           (λ x h k l e. (o .lists x h (omega (arith, phase-at)) (list-at x e), mine x k l))
           (λ b n x h k l e. (t .fewer (cl b) x (list-off b x n e), still-in b x n e));
     }
       where
-        Back : ℕ → Type 0
-        Back b = 2 ≤ phaseOf q cl′ b → numberOf q cl′ b ≤ ctr
-            → (2 ≤ phaseOf q cl b) × (numberOf q cl′ b ≡ numberOf q cl b) × (phaseOf q cl b ≤ phaseOf q cl′ b)
-
         Lists : ℕ → Type 0
         Lists b = (x : ℕ) → 4 ≤ phaseOf q cl b → 2 ≤ phaseOf q cl′ b → numberOf q cl′ b ≤ ctr → listOf q cl′ b x ≡ true
             → (listOf q cl b x ≡ true) × (phaseOf q cl x ≤ phaseOf q cl′ x)
@@ -217,7 +216,10 @@ module _ (s : State) (a : ℕ) (c : Client) (f : Client → Client) (tame : Tame
         };
       }
 
--- a client that comes out without a number, in either queue
+-- a client at stage 0 is in neither queue
+pub out-of-commits : (k : ℕ) → k ≡ 0 → cphase k ≡ 0
+out-of-commits k e = ap cphase e ∙ cph-in 0 (omega arith)
+
 module _ (cl : ℕ → Client) (a : ℕ) (c : Client) (f : Client → Client) (z : c .stage ≡ 0) where
   out-R : {ctr : ℕ} → Own requests cl a c f ctr
   unfolding rphase
@@ -225,7 +227,7 @@ module _ (cl : ℕ → Client) (a : ℕ) (c : Client) (f : Client → Client) (z
 
   out-C : {ctr : ℕ} → Own commits cl a c f ctr
   out-C =
-      let e : cphase (c .stage) ≡ 0 = ap cphase z ∙ cph-in 0 (omega arith) in
+      let e = out-of-commits (c .stage) z in
       record { back = λ h. absurd (omega arith); lists = λ x h k. absurd (omega arith); made = λ x h. absurd (omega arith) }
 
 pub closes : {k : Call} (s : State) (a : ℕ) (d : List DRow) → Effect k s (leave s a d)
@@ -240,7 +242,7 @@ pub opens : (s : State) (a : ℕ) → a < clients → s .cl a .stage ≡ 0 → E
 unfolding begun rphase
 opens s a h e =
     acts s a (newcomer s) same (tame-same a)
-    (λ z. absurd (omega arith)) (λ z. absurd (omega (arith, cph-in 0 (omega arith), ap cphase e)))
+    (λ z. absurd (omega arith)) (λ z. absurd (omega (arith, out-of-commits (s .cl a .stage) e)))
     (out-R (s .cl) a (newcomer s) same refl) (out-C (s .cl) a (newcomer s) same refl)
     record { shut = λ _. inr (refl, h); alive = λ h. absurd (omega arith); held = λ h k. absurd (omega arith) }
     (suc (s .W)) (s .R) (s .C) (s .last) (s .dat) (s .comm) (omega arith) (omega arith) (omega arith)

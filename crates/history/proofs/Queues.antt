@@ -14,11 +14,11 @@ use Rattle.spec.specs.Image.{Image}
 use Rattle.spec.proofs.Tickets.{look, look-strikes, count, count-zero}
 use Rattle.spec.proofs.Model.{rphase, cphase}
 use Rattle.spec.proofs.View.{view}
-use Rattle.history.proofs.Effects.{Side, requests, commits, phases}
+use Rattle.history.proofs.Effects.{Side, requests, commits, out-of-commits, phases}
 use Rattle.history.proofs.Changes.{goes-up, goes-out, stays-R, stays-C}
 use Rattle.history.proofs.Grown.{next, client, Grown, inv, at-most-13, does, gets, same-after}
 use Rattle.history.proofs.AfterRounds.{After, Stable, Hit, stays, andThen, so, both, one-round}
-use Rattle.history.proofs.Drain.{phase, number, list, counter, Line, Holds, Far, Gone, held, gone-stable, ahead-less, cost-is, drains}
+use Rattle.history.proofs.Drain.{phase, number, list, counter, Line, Holds, Far, Gone, counts, held, gone-stable, ahead-less, cost-is, drains}
 
 -- ---- the queues as lines
 
@@ -60,9 +60,6 @@ line-R n = record {
 up-C : (j k : ℕ) → k ≡ suc j → 1 ≤ cphase j → cphase j ≤ 4 → cphase k ≡ suc (cphase j)
 up-C j k e h l = let z = in-C j h in elim (phases k) [ inl x ↦ omega (arith, x .1, z .2) | inr x ↦ absurd (omega (arith, x .0, z .2)) ]
 
-out-C : (k : ℕ) → k ≡ 0 → cphase k ≡ 0
-out-C k e = elim (phases k) [ inl x ↦ omega (arith, x .1) | inr x ↦ x .1 ]
-
 line-C : (n : ℕ) → Line n commits
 line-C n = record {
   tick = λ s c g. does s g c .tick-C;
@@ -72,13 +69,13 @@ line-C n = record {
   listed = λ s g. g .lists-C;
   rises = λ s c g b d h k. let z = in-C (client s b .stage) h in elim (gets s g c b d (omega (arith, z .0))) [
     | goes-up e l ↦ inl (omega (arith, up-C (client s b .stage) (client (next s c) b .stage) e h (omega arith)))
-    | goes-out e ↦ inr (out-C (client (next s c) b .stage) e)
+    | goes-out e ↦ inr (out-of-commits (client (next s c) b .stage) e)
     | stays-R e y ↦ absurd (omega (arith, z .0))
     | stays-C e y ↦ absurd (omega (arith, z .2))
   ];
   passes = λ s c g b d e f. let z = in-C (client s b .stage) (omega arith) in elim (gets s g c b d (omega (arith, z .0))) [
     | goes-up i l ↦ inl (omega (arith, up-C (client s b .stage) (client (next s c) b .stage) i (omega arith) (omega arith)))
-    | goes-out i ↦ inr (out-C (client (next s c) b .stage) i)
+    | goes-out i ↦ inr (out-of-commits (client (next s c) b .stage) i)
     | stays-R i y ↦ absurd (omega (arith, z .0))
     | stays-C i y ↦ absurd (y (nobody-left commits s b f))
   ];
@@ -93,7 +90,7 @@ Come q b m k s = (m ≤ counter q s) × (Holds q b m s → k ≤ client s b .sta
 module _ {n : ℕ} {q : Side} (line : Line n q) (above : (k : ℕ) → 2 ≤ q .phase k → 2 ≤ k) where
   come-stable : (b m k : ℕ) → Stable n (Come q b m k)
   come-stable b m k s c g o x = (
-    let t = line .tick s c g .counter in omega arith,
+    omega (arith, counts line s c g, x .0),
     λ h. let y = x .1 (held line s c g b m (x .0) h .0) in let z = same-after s c g o b (above _ (h .0)) .stage in omega arith,
   )
 
@@ -106,7 +103,7 @@ module _ {n : ℕ} {q : Side} (line : Line n q) (above : (k : ℕ) → 2 ≤ q .
     where
       hit : Hit n b (Come q b m k) (Come q b m (suc k))
       hit s c g o x d = (
-        let t = line .tick s c g .counter in omega arith,
+        omega (arith, counts line s c g, x .0),
         λ h. let w = held line s c g b m (x .0) h .0 in
             let y = x .1 w in
             let v = above _ (h .0) in
@@ -157,7 +154,7 @@ module _ (n : ℕ) where
 
   bound-stable : (b m k : ℕ) → Stable n (Bound b m k)
   bound-stable b m k s c g o x = (
-    let t = line-R n .tick s c g .counter in omega arith,
+    omega (arith, counts (line-R n) s c g, x .0),
     λ h. let y = x .1 (held (line-R n) s c g b m (x .0) h .0) in
         let z = same-after s c g o b (above-R _ (h .0)) in
         (omega (arith, y .0, z .stage), z .commit (y .0) ∙ y .1),

@@ -6,12 +6,11 @@ use mathlib.Core.Path.{_≡_, refl, sym, _∙_, ap, subst}
 use mathlib.Core.Logic.{_≢_, by-cases}
 use mathlib.Core.Bool.{Bool, true, false, _||_, or-true, false≢true}
 use mathlib.Core.List.{List, [], _∷_, _++_, flatten}
-use mathlib.Core.Option.{none, some}
+use mathlib.Core.Option.{some}
 use native.Mathlib.Decide.{ℕ-discrete}
 use native.Mathlib.Omega.{arith}
 use borrow.Author.Tests.{eq-eqb}
 use lib.ListN.{length}
-use Rattle.sets.specs.Choice.{if_then_else_}
 use Rattle.sets.specs.Set.{clients}
 use Rattle.spec.specs.Answers.{Answer}
 use Rattle.spec.specs.Image.{Image, empty}
@@ -27,7 +26,7 @@ use Rattle.spec.proofs.Model as m
 use Rattle.spec.proofs.Model.{State}
 use Rattle.spec.proofs.Plain as own
 use Rattle.spec.proofs.Walk.{empty-view}
-use Rattle.spec.proofs.Erase.{erase, erase-empty, clientOf, openOf}
+use Rattle.spec.proofs.Erase.{erase, erase-empty, openOf, live-some, some-live}
 use Rattle.spec.proofs.Demand.{told-by, same-told, same-memory, fed, start-good, refused-tells}
 use Rattle.history.specs.Afterwards.{afterRun, tableAfter}
 use Rattle.history.specs.Rounds.{
@@ -75,15 +74,6 @@ each-named n (r ∷ rs) h = let z = split n r (flatten rs) h in (z .0, each-name
 
 -- ---- from the record and the buffers to images
 
--- an open client's stage in the plain table
-stage-in : (c : own.PClient) (o : Open) → clientOf c ≡ some o → c .stage ≡ o .stage
-unfolding clientOf
-stage-in c o e = go (c .live) e
-  where
-    go : (x : Bool) → (if x then some (openOf c) else none) ≡ some o → c .stage ≡ o .stage
-    go true e = ap (λ (z : Open). z .stage) (same-some e)
-    go false e = absurd (none-some refl e)
-
 -- what a list of calls leaves
 record Followed (n : ℕ) (s : Image) (l : List Call) (t : Table) : Type 0 where
   pub grown : Grown n (run s l)
@@ -121,14 +111,17 @@ module _ {n : ℕ} where
 
   -- the plain table has the store's stages
   queued : (s : Image) (g : Grown n s) (b : ℕ) → 1 ≤ client s b .stage → Queued (erase (g .table)) b
-  unfolding erase clientOf
+  unfolding erase
   queued s g b h =
       let i = inv s g .one b in
-      (openOf (g .table .cl b), rw (i .live (is-open s g b h)), omega (arith, i .on-stage), omega (arith, i .on-stage, at-most-13 s g b))
+      let e = live-some (g .table .cl b) (i .live (is-open s g b h)) in
+      (openOf (g .table .cl b), e, omega (arith, i .on-stage), omega (arith, i .on-stage, at-most-13 s g b))
 
   in-queue : (s : Image) (g : Grown n s) (b : ℕ) → Queued (erase (g .table)) b → 1 ≤ client s b .stage
   unfolding erase
-  in-queue s g b q = omega (arith, inv s g .one b .on-stage, stage-in (g .table .cl b) (q .0) (q .1), q .2)
+  in-queue s g b q =
+      let e = ap (λ (o : Open). o .stage) (some-live (g .table .cl b) (q .0) (q .1) .1) in
+      omega (arith, inv s g .one b .on-stage, e, q .2)
 
   rounds-on : (s : Image) (rs : List (List Call)) (g : Grown n s) → AllNamed n rs → Rounds (whole s) (erase (g .table)) rs → AllRounds s rs
   rounds-on s [] g o h = tt

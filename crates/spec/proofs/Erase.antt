@@ -53,7 +53,7 @@ erase-empty = refl
 
 -- ---- clients
 
-live-some : (q : PClient) → q .live ≡ true → clientOf q ≡ some (openOf q)
+pub live-some : (q : PClient) → q .live ≡ true → clientOf q ≡ some (openOf q)
 unfolding clientOf
 live-some q e = rw e
 
@@ -61,7 +61,7 @@ dead-none : (q : PClient) → q .live ≡ false → clientOf q ≡ none
 unfolding clientOf
 dead-none q e = rw e
 
-some-live : (q : PClient) (o : Open) → clientOf q ≡ some o → (q .live ≡ true) × (openOf q ≡ o)
+pub some-live : (q : PClient) (o : Open) → clientOf q ≡ some o → (q .live ≡ true) × (openOf q ≡ o)
 unfolding clientOf
 some-live q o e = go (q .live) refl e
   where
