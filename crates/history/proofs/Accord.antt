@@ -1,4 +1,4 @@
--- The words of specs/Rounds in accord with document 02, 8: two laws of them, and one small run, computed, which shows what lists of calls are rounds,
+-- The words of specs/Rounds in accord with document 02, 8 and 12: laws of them, and one small run, computed, which shows what lists of calls are rounds,
 -- and in which round a transaction is closed. In it, in a store of three rows, clients 0 and 1 have written a cell each and entered the request
 -- queue; client 2 has begun and is at stage 0.
 -- Assumes nothing.
@@ -12,7 +12,7 @@ use native.Mathlib.Decide.{ℕ-discrete}
 use native.Mathlib.Omega.{arith}
 use borrow.Author.Tests.{ne-eqb}
 use lib.ListN.{replicate}
-use Rattle.sets.specs.Set.{bit, member, insert, remove, size, collect, strike}
+use Rattle.sets.specs.Set.{clients, bit, member, insert, remove, size, collect, strike}
 use Rattle.rows.specs.Rows.{
   valueOf,
   spliced,
@@ -63,9 +63,16 @@ use Rattle.spec.specs.Run.{Call, Begin, Read, Write, Advance, Abandon, perform,
 use Rattle.spec.specs.Table.{Open, Table, blank, put, reaches, tell}
 use Rattle.spec.specs.Right.{tells}
 use Rattle.history.specs.Afterwards.{afterRun, tableAfter}
-use Rattle.history.specs.Rounds.{Fate, StillOpen, Closed, Abandoned, over, fateBy, first, fate, Queued, serves, served, Round}
+use Rattle.history.specs.Rounds.{Fate, StillOpen, Closed, Abandoned, over, fateBy, first, fate, Queued, serves, served, Round, limit}
 
 -- ---- laws
+
+-- "4 × n × n + 32 rounds, 4,128 for 32"; document 02, 12: "16,416 by the same formula"
+pub for-32 : limit 32 ≡ 4128
+for-32 = refl
+
+pub for-64 : limit clients ≡ 16416
+for-64 = refl
 
 -- the fate of a transaction that is over is decided by one call, before which it was open
 abbrev pub Decided : ℕ → Memory → List Call → Type 0

@@ -145,7 +145,8 @@ pub record Demand3 (d c : List ℕ) (w l : ℕ) (qs : List Call) : Type 0 where
   -- document 02, 8: "a transaction that has entered the request queue and isn't abandoned is closed, Done or Conflict, within 4 × n × n + 32
   -- rounds", where "only clients below n are named"
   pub nobodyWaits : NobodyWaits (memoryOf (setUp d c w l)) qs
-  -- "4,128 for 32", "whatever else is begun, written, abandoned or trimmed meanwhile": whatever the calls are
+  -- "4,128 for 32" and, document 02, 12, "16,416 by the same formula" for 64; "whatever else is begun, written, abandoned or trimmed meanwhile":
+  -- whatever the calls are
   pub whoeverCalls : WhoeverCalls (memoryOf (setUp d c w l)) qs
   -- and there are rounds, after every list of calls
   pub roundsExist : RoundsExist (memoryOf (setUp d c w l)) qs

@@ -137,9 +137,9 @@ NobodyWaits m qs =
     (n : ℕ) → AllBelow n qs → (rounds : List (List Call)) → AllBelow n (flatten rounds)
     → ClosedWithin (limit n) (afterRun qs m) (tableAfter qs m blank) rounds
 
--- "4,128 for 32": whoever is named
+-- document 02, 12: "The limit on rounds becomes 16,416 by the same formula": whoever is named
 abbrev pub WhoeverCalls : Memory → List Call → Type 0
-WhoeverCalls m qs = (rounds : List (List Call)) → ClosedWithin 4128 (afterRun qs m) (tableAfter qs m blank) rounds
+WhoeverCalls m qs = (rounds : List (List Call)) → ClosedWithin 16416 (afterRun qs m) (tableAfter qs m blank) rounds
 
 -- ---- there are such rounds: to advance the clients below n in turn is one
 

@@ -4,23 +4,24 @@ use Prim.Native.Nat.{ℕ, zero, suc, _≤_, _<_}
 use mathlib.Core.Path.{_≡_, refl}
 use mathlib.Core.Bool.{Bool, true, false}
 use mathlib.Core.Logic.{_⊎_, inl, inr}
-use mathlib.Core.List.{List, [], _∷_}
+use mathlib.Core.List.{List, [], _∷_, flatten}
 use lib.ListN.{length, getD, set, replicate}
 use native.Mathlib.Omega.{arith}
 use borrow.Author.Tests.{le-ltb, le-leb, lt-leb, eq-eqb, ne-eqb}
 use Rattle.sets.specs.Choice.{if_then_else_}
 use Rattle.sets.specs.Set.{clients, bit, member, insert, remove, size, collect, strike}
-use Rattle.rows.specs.Rows.{Row, number, bytesOf, dataRow, tagOf, cellOf, commitRow, commitNumber, commitTag, filter, hasTag}
+use Rattle.rows.specs.Rows.{Row, rowsIn, rowsFrom, laid, number, bytesOf, dataRow, tagOf, cellOf, commitRow, commitNumber, commitTag, filter, hasTag}
 use Rattle.search.specs.Numbers.{lesser, smallest, above}
 use Rattle.search.specs.Look.{commitOf, isOwn}
 use Rattle.search.specs.Share.{any, wrote, cellsOf, shares, clash, conflict}
 use Rattle.trimming.specs.Trim.{between, later, overtaken, stays, trimmedRows, inUse, trimmedCommits}
 use Rattle.spec.specs.declared.Progress.the-variants.{Stage, Waiting, Conflict, Done}
-use Rattle.spec.specs.Answers.{Answer, Answered, Refused, wrongStage, cellLimit}
+use Rattle.spec.specs.declared.Store.{Store}
+use Rattle.spec.specs.Answers.{Answer, Answered, Refused, unfit, noClient, notOpen, wrongStage, cellLimit}
 use Rattle.spec.specs.Image.{Clients, Image, countersOf, clientsOf, imageOf, withClients, withRows, cleared, closed, stageOf, numberOf, isOpen, zeros, empty}
-use Rattle.spec.specs.Calls.{cells, top, gives, refuse, read, write, added, removed, abandon, readers, low, trimmedTo, trim}
-use Rattle.spec.specs.Steps.{queued, struck, others, goOn, finished, enter, looked, lookRequests, lookCommits, check, advance}
-use Rattle.spec.specs.Bytes.{countersIn, clientsIn, recordOf, storeOf, After, leaves, accepts, setUp}
+use Rattle.spec.specs.Calls.{cells, top, gives, refuse, free, begin, read, write, added, removed, abandon, readers, low, trimmedTo, trim}
+use Rattle.spec.specs.Steps.{queued, struck, others, goOn, finished, enter, listRequests, looked, lookRequests, listCommits, lookCommits, check, advance}
+use Rattle.spec.specs.Bytes.{countersIn, clientsIn, recordOf, seen, storeOf, After, leaves, laidOut, known, fits, after, accepts, setUp}
 
 -- ---- the cell limit (document 02, 9): d and c are the bytes of the buffers, w the first W
 
@@ -84,6 +85,30 @@ pub abandoned-late : (k : ℕ) (i : Image) → k < clients → isOpen i k ≡ tr
 unfolding abandon
 abandoned-late k i h o (inl e) = rw (lt-leb clients k h, o, e)
 abandoned-late k i h o (inr e) = rw (lt-leb clients k h, o, e)
+
+-- document 02, 12: "64 clients, 0 to 63, and refusal 3 begins at 64": in every store, and client 63 is one like the others
+pub client-64 : (x : ℕ) (v : List ℕ) (i : Image)
+    → (begin 64 i ≡ refuse noClient i) × (read 64 x i ≡ refuse noClient i) × (write 64 x v i ≡ refuse noClient i)
+    × (advance 64 i ≡ refuse noClient i) × (abandon 64 i ≡ refuse noClient i)
+unfolding begin read write advance abandon
+client-64 x v i = (refl, refl, refl, refl, refl)
+
+pub client-63 : (v : List ℕ) (i : Image) → length v ≡ 16 → isOpen i 63 ≡ false
+    → (read 63 7 i ≡ refuse notOpen i) × (write 63 7 v i ≡ refuse notOpen i) × (advance 63 i ≡ refuse notOpen i) × (abandon 63 i ≡ refuse notOpen i)
+unfolding read write advance abandon
+client-63 v i l c = rw (eq-eqb (length v) 16 l, c) (refl, refl, refl, refl)
+
+-- "a stage is unknown", of any of the "64 clients, 0 to 63" (document 02, 12): a store of one row with nothing in use, and client 63 at stage g
+abbrev lastAt : ℕ → Store
+lastAt g = recordOf 1 8 (countersOf 0 0 0 0) (clientsOf (set zeros 63 g) zeros zeros zeros zeros zeros zeros) 0 0
+
+pub stage-13 : after free (lastAt 13) (replicate 24 0) (replicate 8 0) ≡ leaves (lastAt 13) (replicate 24 0) (replicate 8 0) (Answered 1)
+unfolding after fits known laidOut seen storeOf free laid rowsIn rowsFrom flatten
+stage-13 = refl
+
+pub stage-14 : after free (lastAt 14) (replicate 24 0) (replicate 8 0) ≡ leaves (lastAt 14) (replicate 24 0) (replicate 8 0) (Refused unfit)
+unfolding after fits known
+stage-14 = refl
 
 -- ---- Read and Write during a commit (document 02, 1)
 
@@ -158,6 +183,39 @@ pub smaller-kept : lookRequests 1 (entering (three 4 4 1) (three 0 1 0) zeros) �
 unfolding lookRequests looked goOn struck queued strike bit member remove size
 smaller-kept = refl
 
+-- document 02, 12: "both waiting lists grow to 64 clients": clients 40 and 63 wrote cell 7, by transactions 1 and 2, and are in one queue. Client
+-- k is digit k of a list: 63 is the highest of 64
+abbrev two : ℕ → ℕ → List ℕ
+two a b = set (set zeros 40 a) 63 b
+
+abbrev farApart : List ℕ → List ℕ → List ℕ → Image
+farApart stages blockers ahead =
+    imageOf 4 8 (countersOf 2 2 2 0) (clientsOf stages (two 1 2) zeros (two 1 2) (two 1 2) blockers ahead) (dataRow 1 7 value ∷ dataRow 2 7 value ∷ []) []
+
+pub lists-63 : listRequests 40 (farApart (two 3 3) zeros zeros) ≡ gives (farApart (two 4 3) (two 9223372036854775808 0) zeros) (Stage 4)
+unfolding listRequests goOn queued others collect insert member bit shares any wrote isOwn hasTag tagOf cellOf number dataRow bytesOf
+lists-63 = refl
+
+pub lists-40 : listCommits 63 (farApart (two 9 9) zeros zeros) ≡ gives (farApart (two 9 10) zeros (two 0 1099511627776)) (Stage 10)
+unfolding listCommits goOn queued others collect insert member bit
+lists-40 = refl
+
+-- client 40 strikes client 63, which has the larger number, and client 63 waits for client 40; in the other queue alike
+pub strikes-63 : lookRequests 40 (farApart (two 4 3) (two 9223372036854775808 0) zeros) ≡ gives (farApart (two 5 3) zeros zeros) (Stage 5)
+unfolding lookRequests looked goOn struck queued strike bit member remove
+strikes-63 = refl
+
+abbrev waiting : Image
+waiting = farApart (two 4 4) (two 0 1099511627776) zeros
+
+pub waits-for-40 : advance 63 waiting ≡ gives waiting (Waiting 1)
+unfolding advance lookRequests looked goOn struck queued strike bit member remove size
+waits-for-40 = refl
+
+pub strikes-63-commit : lookCommits 40 (farApart (two 10 9) zeros (two 9223372036854775808 0)) ≡ gives (farApart (two 11 9) zeros zeros) (Stage 11)
+unfolding lookCommits looked goOn struck queued strike bit member remove
+strikes-63-commit = refl
+
 -- transaction 1 committed cell 7 under 1; client 0's transaction 2, with S 0, wrote it too, and client 1's transaction 3 has it on its list
 abbrev meeting : Clients → List Row → Image
 meeting c r = imageOf 4 16 (countersOf 3 3 1 1) c (dataRow 1 7 value ∷ r) (commitRow 1 1 ∷ [])
@@ -198,6 +256,11 @@ unfolding advance enter finished goOn closed cleared bit member remove any hasTa
 done-unchanged = refl
 
 -- ---- Trim
+
+-- "low is the smallest S of open transactions", of all 64 clients: client 63 has S 1, client 40 has S 2, and 3 is the last commit number
+pub low-of-63 : low (imageOf 4 8 (countersOf 5 3 3 3) (clientsOf zeros (two 5 4) (two 2 1) zeros zeros zeros zeros) [] []) ≡ 1
+unfolding low readers smallest lesser
+low-of-63 = refl
 
 -- "A committed data row goes if its cell has another with a larger commit number that is at most low": cell 7 was committed under 1, 2 and 3
 abbrev thrice : Image

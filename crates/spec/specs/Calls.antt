@@ -69,8 +69,8 @@ givesFree i = gives i (freeRows i)
 unfoldable pub free : Image → Outcome ℕ
 free i = givesFree i
 
--- ---- "Begin takes the next W and a snapshot S, the last commit number." "Begin: 3 client above 31, 5 already open, 8 if W 4,294,967,295 has
--- been issued."
+-- ---- "Begin takes the next W and a snapshot S, the last commit number." "Begin: [..] 3 client above 31, 5 already open, 8 if W 4,294,967,295 has
+-- been issued." Document 02, 12: "refusal 3 begins at 64".
 
 unfoldable pub begun : ℕ → Image → Outcome Begun
 begun k i =

@@ -1,6 +1,6 @@
--- The house cases of document 01 that are marked P, as rows of one table (case 1 with the read that document 02, 1 changes), two rows more for
--- mistakes of its list that these eight let pass, and rows for document 02: one for 1, two for 2, two for 9. Each row has the lines that are put
--- in, each with the line that is to come out. proofs/House.antt proves the whole table.
+-- The house cases of document 01 that are marked P, as rows of one table (case 1 with the read that document 02, 1 changes, case 2 with the
+-- clients of document 02, 12), two rows more for mistakes of its list that these eight let pass, and rows for document 02: one for 1, two for 2, two
+-- for 9, two for 12. Each row has the lines that are put in, each with the line that is to come out. proofs/House.antt proves the whole table.
 -- Assumes nothing.
 use Prim.Native.Nat.{ℕ, zero, suc, _+_, _-_}
 use Prim.Native.String.{String}
@@ -64,10 +64,10 @@ cases =
       name = "2: last client and last cell";
       exchanges =
           ("(set-up 2 1 0)" ⇒ "(set-up (free 2))"
-          ∷ "(begin 31)" ⇒ "(begin 31 (number 1) (snapshot 0))"
-          ∷ "(begin 32)" ⇒ "(begin 32 (refused 3))"
-          ∷ "(write 31 1023 000102030405060708090a0b0c0d0e0f)" ⇒ "(write 31 1023 (free 1))"
-          ∷ "(write 31 1024 000102030405060708090a0b0c0d0e0f)" ⇒ "(write 31 1024 (refused 4))"
+          ∷ "(begin 63)" ⇒ "(begin 63 (number 1) (snapshot 0))"
+          ∷ "(begin 64)" ⇒ "(begin 64 (refused 3))"
+          ∷ "(write 63 1023 000102030405060708090a0b0c0d0e0f)" ⇒ "(write 63 1023 (free 1))"
+          ∷ "(write 63 1024 000102030405060708090a0b0c0d0e0f)" ⇒ "(write 63 1024 (refused 4))"
           ∷ []);
     }
     ∷ record {
@@ -373,6 +373,78 @@ cases =
           ++ newCells 0 0 17 16
           ++ ("(write 0 16 000102030405060708090a0b0c0d0e0f)" ⇒ "(write 0 16 (refused 9))"
           ∷ "(write 0 15 ffeeddccbbaa99887766554433221100)" ⇒ "(write 0 15 (free 1))"
+          ∷ []);
+    }
+    ∷ record {
+      name = "clients 40 and 63 wait for one another, in both queues";
+      exchanges =
+          -- both write cell 7: client 40 has the smaller number, and still waits for client 63, which has none; then client 63 waits for it
+          ("(set-up 4 1 0)" ⇒ "(set-up (free 4))"
+          ∷ "(begin 40)" ⇒ "(begin 40 (number 1) (snapshot 0))"
+          ∷ "(begin 63)" ⇒ "(begin 63 (number 2) (snapshot 0))"
+          ∷ "(write 40 7 000102030405060708090a0b0c0d0e0f)" ⇒ "(write 40 7 (free 3))"
+          ∷ "(write 63 7 ffeeddccbbaa99887766554433221100)" ⇒ "(write 63 7 (free 2))"
+          ∷ "(advance 63)" ⇒ "(advance 63 (stage 1))"
+          ∷ [])
+          ++ stages 40 1 4
+          ++ ("(advance 40)" ⇒ "(advance 40 (waiting 1))"
+          ∷ [])
+          ++ stages 63 2 3
+          ++ ("(advance 63)" ⇒ "(advance 63 (waiting 1))"
+          ∷ [])
+          ++ stages 40 5 9
+          ++ ("(advance 63)" ⇒ "(advance 63 (waiting 1))"
+          ∷ "(advance 40)" ⇒ "(advance 40 (done 1))"
+          ∷ "(advance 63)" ⇒ "(advance 63 (stage 5))"
+          ∷ "(advance 63)" ⇒ "(advance 63 (conflict 1))"
+          -- the same in the commit queue, with a cell each
+          ∷ "(begin 40)" ⇒ "(begin 40 (number 3) (snapshot 1))"
+          ∷ "(begin 63)" ⇒ "(begin 63 (number 4) (snapshot 1))"
+          ∷ "(write 40 8 000102030405060708090a0b0c0d0e0f)" ⇒ "(write 40 8 (free 2))"
+          ∷ "(write 63 9 ffeeddccbbaa99887766554433221100)" ⇒ "(write 63 9 (free 1))"
+          ∷ [])
+          ++ stages 63 1 7
+          ++ stages 40 1 10
+          ++ ("(advance 40)" ⇒ "(advance 40 (waiting 1))"
+          ∷ [])
+          ++ stages 63 8 3
+          ++ ("(advance 63)" ⇒ "(advance 63 (waiting 1))"
+          ∷ [])
+          ++ stages 40 11 2
+          ++ ("(advance 63)" ⇒ "(advance 63 (waiting 1))"
+          ∷ [])
+          ++ stages 40 13 1
+          ++ stages 63 11 3
+          ++ ("(advance 63)" ⇒ "(advance 63 (done 3))"
+          ∷ "(advance 40)" ⇒ "(advance 40 (done 2))"
+          ∷ []);
+    }
+    ∷ record {
+      name = "client 63 reads at the oldest snapshot, through a trim; there is no client 64";
+      exchanges =
+          ("(set-up 4 1 0)" ⇒ "(set-up (free 4))"
+          ∷ "(begin 0)" ⇒ "(begin 0 (number 1) (snapshot 0))"
+          ∷ "(write 0 7 000102030405060708090a0b0c0d0e0f)" ⇒ "(write 0 7 (free 3))"
+          ∷ [])
+          ++ stages 0 1 13
+          ++ ("(advance 0)" ⇒ "(advance 0 (done 1))"
+          ∷ "(begin 63)" ⇒ "(begin 63 (number 2) (snapshot 1))"
+          ∷ "(begin 32)" ⇒ "(begin 32 (number 3) (snapshot 1))"
+          ∷ "(write 32 7 ffeeddccbbaa99887766554433221100)" ⇒ "(write 32 7 (free 2))"
+          ∷ [])
+          ++ stages 32 1 13
+          ++ ("(advance 32)" ⇒ "(advance 32 (done 2))"
+          ∷ "(begin 0)" ⇒ "(begin 0 (number 4) (snapshot 2))"
+          ∷ "(begin 62)" ⇒ "(begin 62 (number 5) (snapshot 2))"
+          ∷ "(trim)" ⇒ "(trim (dropped 0))"
+          ∷ "(read 63 7)" ⇒ "(read 63 7 (value 000102030405060708090a0b0c0d0e0f))"
+          ∷ "(read 62 7)" ⇒ "(read 62 7 (value ffeeddccbbaa99887766554433221100))"
+          ∷ "(read 64 7)" ⇒ "(read 64 7 (refused 3))"
+          ∷ "(write 64 7 000102030405060708090a0b0c0d0e0f)" ⇒ "(write 64 7 (refused 3))"
+          ∷ "(advance 64)" ⇒ "(advance 64 (refused 3))"
+          ∷ "(abandon 64)" ⇒ "(abandon 64 (refused 3))"
+          ∷ "(abandon 63)" ⇒ "(abandon 63 (free 2))"
+          ∷ "(trim)" ⇒ "(trim (dropped 1))"
           ∷ []);
     }
     ∷ []

@@ -2,7 +2,7 @@
 
 pub mod waits;
 
-use model::calls::Call;
+use model::calls::{Answer, Call};
 use model::check::{check_under, Report};
 use model::coverage::Coverage;
 use model::forms::{form_text, lines, Form, Grammar};
@@ -136,4 +136,28 @@ pub fn new_cells(script: &[u8], printed: &[u8]) -> Vec<NewCell> {
         }
     }
     found
+}
+
+/// What each number of a client that a run names has met, told from its forms and answers alone: answers by their first word, refusals by their
+/// number, waits by the stage.
+pub fn met_by_client(script: &[u8], printed: &[u8]) -> BTreeMap<u32, BTreeSet<String>> {
+    let (mut stages, mut met) = (BTreeMap::<u32, u8>::new(), BTreeMap::<u32, BTreeSet<String>>::new());
+    for (line, answer) in lines(script).into_iter().zip(lines(printed)) {
+        let Some(form) = grammar().parse(line) else { continue };
+        let Form::Call(call) = &form else { continue };
+        let (Some(client), Some(answer)) = (call.client(), grammar().parse_answer(&form, answer)) else { continue };
+        let what = match answer {
+            Answer::Refused(refusal) => format!("refused {}", refusal.number()),
+            Answer::Waiting(_) => format!("waiting at {}", stages[&client]),
+            Answer::Stage(stage) => {
+                stages.insert(client, stage);
+                format!("stage {stage}")
+            }
+            Answer::Conflict(_) => "conflict".to_string(),
+            Answer::Done(_) => "done".to_string(),
+            _ => call.keyword().to_string(),
+        };
+        met.entry(client).or_default().insert(what);
+    }
+    met
 }

@@ -10,7 +10,7 @@ use std::cmp::Reverse;
 const LINES: usize = 100_000;
 const SEEDS: std::ops::RangeInclusive<u64> = 1..=4;
 
-/// A schedule with a long wait for `clients` clients, 1 to 32.
+/// A schedule with a long wait for `clients` clients, 1 to 64.
 ///
 /// All of them write two cells each, so that each shares one with the next, and ask to commit in that order: the last one waits for all the others,
 /// one after the other. Every second of them commits, the next one has a conflict with it. Who is closed begins again, writes a cell of its own and
@@ -98,11 +98,11 @@ fn with_comma(number: u64) -> String {
     }
 }
 
-/// Two tables for docs/WAITING.md: by the number of clients, on chained schedules; and by the generator's profile, with all 32. All runs are held to the
+/// Two tables for docs/WAITING.md: by the number of clients, on chained schedules; and by the generator's profile, with all 64. All runs are held to the
 /// model, the plain table and the limit.
 pub fn tables() -> (String, String) {
     let mut chains = String::from("| boxes | longest wait seen | what the proof needs | limit |\n|---:|---:|---:|---:|\n");
-    for clients in [1, 2, 4, 8, 16, 32] {
+    for clients in [1, 2, 4, 8, 16, 32, 64] {
         let (seen, limit) = reported("chained", &chained(clients)).1.longest_wait;
         let [seen, proved, limit] = [seen, proved(u64::from(clients)), limit].map(with_comma);
         chains += &format!("| {clients} | {seen} | {proved} | {limit} |\n");

@@ -4,16 +4,16 @@ use model::coverage::Coverage;
 use model::gen::{generate_under, profiles};
 use model::session::run_under;
 use model::tickets::Ticket;
-use runs::{generated, grammar, grammar_before_9, held, landed, new_cells, output, output_in_pieces, with_16_for_0};
-use std::collections::BTreeSet;
+use runs::{generated, grammar, grammar_before_9, held, landed, met_by_client, new_cells, output, output_in_pieces, with_16_for_0};
+use std::collections::{BTreeMap, BTreeSet};
 use std::fs;
 use std::path::{Path, PathBuf};
 
 const LINES: usize = 40_000;
 const SEEDS: std::ops::RangeInclusive<u64> = 1..=3;
 
-/// The house cases that landed tickets change: case 1 by ticket 1.
-const CHANGED: [&str; 1] = ["1"];
+/// The house cases that landed tickets change: case 1 by ticket 1, case 2 by ticket 12.
+const CHANGED: [&str; 2] = ["1", "2"];
 
 /// What the model prints with the landed tickets in force.
 fn due(input: &[u8]) -> Vec<u8> {
@@ -58,7 +58,7 @@ fn scripts_of_tickets() {
 #[test]
 fn examples() {
     let (all, other) = scripts("../../examples", "txt");
-    assert!(all >= 8);
+    assert!(all >= 9);
     assert!(other.is_empty(), "{other:?}");
 }
 
@@ -145,6 +145,31 @@ fn all_is_covered() {
     gaps.retain(|name| runs.iter().all(|run| run.of(name) == 0));
     assert_eq!(gaps, ["refusal 12"]);
     assert!(runs.iter().all(|run| run.of("done without a change") > 0 && run.of("refusal 11") == 0));
+}
+
+/// Ticket 12: 64 clients, 0 to 63, and refusal 3 from 64 on. In generated runs each of them goes through all stages, waits in both queues, commits, has
+/// a conflict, reads, writes and abandons; none of them gets 3, and other numbers get nothing else, or 2 before a set-up.
+#[test]
+fn all_64_clients() {
+    let mut met = BTreeMap::<u32, BTreeSet<String>>::new();
+    for profile in ["mixed", "contended", "rounds", "limits"] {
+        for seed in SEEDS {
+            let script = generate_under(grammar(), seed, LINES, profile).unwrap().text;
+            for (client, more) in met_by_client(&script, &held(profile, &script)) {
+                met.entry(client).or_default().extend(more);
+            }
+        }
+    }
+    let words = ["begin", "read", "write", "abandon", "waiting at 4", "waiting at 10", "conflict", "done"].map(String::from);
+    let due: BTreeSet<String> = (1..=13).map(|stage| format!("stage {stage}")).chain(words).collect();
+    for client in 0..64 {
+        let missing: Vec<_> = due.difference(&met[&client]).collect();
+        assert!(missing.is_empty(), "client {client}: {missing:?}");
+        assert!(!met[&client].contains("refused 3"), "client {client}");
+    }
+    let others: Vec<_> = met.range(64..).collect();
+    assert_eq!(*others[0].0, 64);
+    assert!(others.iter().all(|(_, what)| what.iter().filter(|answer| *answer != "refused 2").eq(["refused 3"])), "{others:?}");
 }
 
 #[test]

@@ -35,7 +35,7 @@ fn a_wait_over_the_limit_is_found() {
 /// A chain of all clients keeps the last one waiting for more than half of n × n rounds.
 #[test]
 fn chains_are_long() {
-    for clients in [8, 16, 32] {
+    for clients in [8, 16, 32, 64] {
         let longest = reported("chained", &chained(clients)).1.longest_wait;
         assert!(longest.0 > u64::from(clients * clients / 2), "{clients}: {longest:?}");
     }

@@ -6,7 +6,7 @@ use native.Mathlib.Omega.{arith}
 use lib.Dec.{eqb, ltb}
 use lib.ListN.{getD}
 use borrow.Author.Needs.{needs}
-use Rattle.sets.specs.Set.{member}
+use Rattle.sets.specs.Set.{clients, member}
 use Rattle.search.proofs.Sharing.{put-start, put-more, put-end}
 use Rattle.search.proofs.with_writers.Statement.{statement}
 use Rattle.search.proofs.with_writers.Tie as tie
@@ -16,7 +16,7 @@ Inv-loop found queued numbers tag out₀ i₀ out i =
     (j : ℕ) → member out j ≡ (member found j || (ltb j i && (member queued j && eqb (getD numbers j 0) tag)))
 
 abbrev μ-loop : tie.MeasureT-loop
-μ-loop found queued numbers tag out₀ i₀ out i = 32 - i
+μ-loop found queued numbers tag out₀ i₀ out i = clients - i
 
 loop-holds : tie.Need-loop-holds Inv-loop μ-loop
 loop-holds c = put-start (c .args .found) (λ j. member (c .args .queued) j && eqb (getD (c .args .numbers .now) j 0) (c .args .tag))
