@@ -5,7 +5,7 @@ ghost use mathlib.Core.List.{List};
 ghost use lib.Dec.{eqb};
 ghost use lib.ListN.{getD};
 ghost use Prim.Native.Nat.{ℕ, _<_};
-ghost use Rattle.sets.specs.Set.{clients, collect, strike};
+ghost use Rattle.sets.specs.Set.{clients, remove, collect, strike};
 ghost use Rattle.sets.specs.Choice.{if_then_else_};
 ghost use Rattle.search.specs.Numbers.{smallest};
 ghost use Rattle.spec.specs.Image.{cleared, closed, empty, Image};
@@ -143,28 +143,17 @@ fn in_queue(queue: Queue, stage: u32) -> bool
     stage <= queue.last
 }
 
-// Whether client j, at this stage, is in the queue and another than the client.
-fn is_other(queue: Queue, client: u32, j: u32, stage: u32) -> bool
-    ensures { λ r. ⌜ r ≡ (not (eqb j client) && queued queue stage) ⌝ }
-{
-    if j == client {
-        return false;
-    }
-    in_queue(queue, stage)
-}
-
 // The clients in the queue other than the client.
 pub fn others(queue: Queue, stage: &[u32; CLIENTS], client: u32) -> Set
     ensures { λ r. ⌜ r ≡ collect (λ j. not (eqb j client) && queued queue (getD (now (stage .entry)) j 0)) clients ⌝ }
 {
     let mut out: Set = 0;
     for i in 0..CLIENTS {
-        let j = i as u32;
-        if is_other(queue, client, j, stage[i]) {
-            out = sets::with(out, j);
+        if in_queue(queue, stage[i]) {
+            out = sets::with(out, i as u32);
         }
     }
-    out
+    sets::without(out, client)
 }
 
 // Whether a look by a client with number own strikes a client at this stage with this number.
@@ -178,6 +167,19 @@ fn strikes(queue: Queue, own: u32, stage: u32, number: u32) -> bool
         return false;
     }
     own < number
+}
+
+// A waiting list after a look at one client, at this stage and with this number: without it, if it is on the list and is struck.
+fn look_at(queue: Queue, own: u32, list: Set, client: u32, stage: u32, number: u32) -> Set
+    ensures { λ r. ⌜ r ≡ (if struck queue own stage number then remove list client else list) ⌝ }
+{
+    if !sets::has(list, client) {
+        return list;
+    }
+    if strikes(queue, own, stage, number) {
+        return sets::without(list, client);
+    }
+    list
 }
 
 // The clients of a waiting list that a look leaves on it.
@@ -195,9 +197,7 @@ pub fn look(
     }
     let mut out = list;
     for i in 0..CLIENTS {
-        if strikes(queue, own, stage[i], number[i]) {
-            out = sets::without(out, i as u32);
-        }
+        out = look_at(queue, own, out, i as u32, stage[i], number[i]);
     }
     out
 }

@@ -1,15 +1,14 @@
 -- Laws of the client sets, each over any width w.
-use mathlib.Core.Bool.{Bool, true, false, _&&_}
+use mathlib.Core.Bool.{Bool, true, false, not, _&&_}
 use mathlib.Core.Path.{_≡_, refl, sym, ap, _∙_}
-use mathlib.Core.Logic.{⊎-elim}
 use Prim.Native.Nat.{ℕ, zero, suc, _+_, _-_, _*_, _/_, _%_, _^_, _≤_, _<_}
 use native.Mathlib.Nat.{one-mul, lt-of-not-le, pow-suc, mod-lt, mod-eq-of-lt, le-of-suc-le-suc}
 use native.Mathlib.Numerals.{one-add}
 use native.Mathlib.Omega.{arith}
 use lib.Dec.{eqb, ltb, eqb·suc-suc}
-use borrow.Author.Tests.{ne-eqb, eq-eqb, lt-ltb, le-ltb, eqb-true, eqb-false, ltb-true, ltb-false}
+use borrow.Author.Tests.{ne-eqb, lt-ltb, le-ltb, eqb-true, eqb-false, ltb-true, ltb-false}
 use lib.Pow.{pow-lt, shr-shr, pow-pos, mod-pow-add}
-use lib.Count.{ones, ones-cat, ones-step}
+use lib.Count.{ones, ones-cat}
 use Rattle.sets.specs.Choice.{if_then_else_}
 use Rattle.sets.specs.Set.{clients, bit, member, insert, remove, size, collect, strike}
 
@@ -127,6 +126,11 @@ member-remove s k j = go (member s k) refl
     go true e = rw (e, sub-bit s k (member-true s k e) j) (choice-eqb (eqb j k) 0 (bit s j))
     go false e = rw e (choice-same (eqb j k) false (member s j) (λ q. rw (eqb-true j k q) (sym e)))
 
+-- a removal of one that is not there leaves the set
+pub remove-absent : (s k : ℕ) → member s k ≡ false → remove s k ≡ s
+unfolding remove
+remove-absent s k e = rw e
+
 -- a removal leaves no larger number
 pub remove-le : (s k : ℕ) → remove s k ≤ s
 unfolding remove
@@ -177,6 +181,37 @@ collect-lt p (suc m) = go (p m) (collect-lt p m)
 pub one-shifted : (w k : ℕ) → k < w → 1 * 2 ^ k % 2 ^ w ≡ 2 ^ k
 one-shifted w k h = ap (λ (x : ℕ). x % 2 ^ w) (one-mul (2 ^ k)) ∙ mod-eq-of-lt (pow-lt h)
 
+-- ---- a removal without a test: digit k, as much as it counts for, is taken away
+
+digit-value : (s k : ℕ) → bit s k * 2 ^ k ≡ (if member s k then 2 ^ k else 0)
+digit-value s k = go (member s k) refl
+  where
+    go : (b : Bool) → member s k ≡ b → bit s k * 2 ^ k ≡ (if b then 2 ^ k else 0)
+    go true e = rw (member-true s k e) (one-mul (2 ^ k))
+    go false e = rw (member-false s k e) (omega arith)
+
+pub digit-le : (s k : ℕ) → bit s k * 2 ^ k ≤ s
+digit-le s k = rw (digit-value s k) (go (member s k) refl)
+  where
+    go : (b : Bool) → member s k ≡ b → (if b then 2 ^ k else 0) ≤ s
+    go true e = bit-le s k (member-true s k e)
+    go false e = omega arith
+
+pub digit-shifted : (w s k : ℕ) → k < w → bit s k * 2 ^ k % 2 ^ w ≡ bit s k * 2 ^ k
+digit-shifted w s k h = mod-eq-of-lt (rw (digit-value s k) (go (member s k)))
+  where
+    go : (b : Bool) → (if b then 2 ^ k else 0) < 2 ^ w
+    go true = pow-lt h
+    go false = pow-pos w
+
+pub remove-digit : (s k : ℕ) → remove s k ≡ s - bit s k * 2 ^ k
+unfolding remove
+remove-digit s k = rw (digit-value s k) (go (member s k))
+  where
+    go : (b : Bool) → (if b then s - 2 ^ k else s) ≡ s - (if b then 2 ^ k else 0)
+    go true = refl
+    go false = omega arith
+
 -- ---- sets made and struck by a rule
 
 ltb-suc : (j m : ℕ) → ltb j (suc m) ≡ (if eqb j m then true else ltb j m)
@@ -202,6 +237,18 @@ member-collect p (suc m) j h = rw (ltb-suc j m) (go (eqb j m) (p m) refl refl (m
     go true false e f ih = ih ∙ rw (eqb-true j m e, f, le-ltb m m (omega arith))
     go false true e f ih = rw (member-insert clients (collect p m) m j (omega arith), e) ih
     go false false e f ih = ih
+
+-- a set made by a rule, without k, is made by that rule for the others
+pub collect-others : (p : ℕ → Bool) (k : ℕ) → remove (collect p clients) k ≡ collect (λ j. not (eqb j k) && p j) clients
+collect-others p k =
+    same-members clients _ _ (omega (arith, remove-le (collect p clients) k, collect-lt p clients)) (collect-lt _ clients)
+    (λ j. rw (member-remove (collect p clients) k j, member-collect p clients j (omega arith), member-collect (λ j. not (eqb j k) && p j) clients j (omega arith))
+    (go (eqb j k) (ltb j clients) (p j)))
+  where
+    go : (t u v : Bool) → (if t then false else (u && v)) ≡ (u && (not t && v))
+    go true true v = refl
+    go true false v = refl
+    go false u v = refl
 
 -- a rule strikes those members that it holds of
 pub member-strike : (p : ℕ → Bool) (s m j : ℕ) → member (strike p s m) j ≡ (if ltb j m && p j then false else member s j)
