@@ -5,7 +5,7 @@ ghost use mathlib.Core.List.{List};
 ghost use lib.Dec.{eqb};
 ghost use lib.ListN.{getD};
 ghost use Prim.Native.Nat.{ℕ, _<_};
-ghost use Rattle.sets.specs.Set.{clients, remove, collect, strike};
+ghost use Rattle.sets.specs.Set.{clients, collect, strike};
 ghost use Rattle.sets.specs.Choice.{if_then_else_};
 ghost use Rattle.search.specs.Numbers.{smallest};
 ghost use Rattle.spec.specs.Image.{cleared, closed, empty, Image};
@@ -169,19 +169,6 @@ fn strikes(queue: Queue, own: u32, stage: u32, number: u32) -> bool
     own < number
 }
 
-// A waiting list after a look at one client, at this stage and with this number: without it, if it is on the list and is struck.
-fn look_at(queue: Queue, own: u32, list: Set, client: u32, stage: u32, number: u32) -> Set
-    ensures { λ r. ⌜ r ≡ (if struck queue own stage number then remove list client else list) ⌝ }
-{
-    if !sets::has(list, client) {
-        return list;
-    }
-    if strikes(queue, own, stage, number) {
-        return sets::without(list, client);
-    }
-    list
-}
-
 // The clients of a waiting list that a look leaves on it.
 pub fn look(
     queue: Queue,
@@ -197,7 +184,9 @@ pub fn look(
     }
     let mut out = list;
     for i in 0..CLIENTS {
-        out = look_at(queue, own, out, i as u32, stage[i], number[i]);
+        if strikes(queue, own, stage[i], number[i]) {
+            out = sets::without(out, i as u32);
+        }
     }
     out
 }

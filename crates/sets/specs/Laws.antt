@@ -9,6 +9,7 @@ use lib.Dec.{eqb, ltb, eqb·suc-suc}
 use borrow.Author.Tests.{ne-eqb, lt-ltb, le-ltb, eqb-true, eqb-false, ltb-true, ltb-false}
 use lib.Pow.{pow-lt, shr-shr, pow-pos, mod-pow-add}
 use lib.Count.{ones, ones-cat}
+use lib.Bits.{bitAnd, and-high}
 use Rattle.sets.specs.Choice.{if_then_else_}
 use Rattle.sets.specs.Set.{clients, bit, member, insert, remove, size, collect, strike}
 
@@ -126,11 +127,6 @@ member-remove s k j = go (member s k) refl
     go true e = rw (e, sub-bit s k (member-true s k e) j) (choice-eqb (eqb j k) 0 (bit s j))
     go false e = rw e (choice-same (eqb j k) false (member s j) (λ q. rw (eqb-true j k q) (sym e)))
 
--- a removal of one that is not there leaves the set
-pub remove-absent : (s k : ℕ) → member s k ≡ false → remove s k ≡ s
-unfolding remove
-remove-absent s k e = rw e
-
 -- a removal leaves no larger number
 pub remove-le : (s k : ℕ) → remove s k ≤ s
 unfolding remove
@@ -183,34 +179,19 @@ one-shifted w k h = ap (λ (x : ℕ). x % 2 ^ w) (one-mul (2 ^ k)) ∙ mod-eq-of
 
 -- ---- a removal without a test: digit k, as much as it counts for, is taken away
 
-digit-value : (s k : ℕ) → bit s k * 2 ^ k ≡ (if member s k then 2 ^ k else 0)
-digit-value s k = go (member s k) refl
-  where
-    go : (b : Bool) → member s k ≡ b → bit s k * 2 ^ k ≡ (if b then 2 ^ k else 0)
-    go true e = rw (member-true s k e) (one-mul (2 ^ k))
-    go false e = rw (member-false s k e) (omega arith)
+and-digit : (s k : ℕ) → bitAnd s (2 ^ k) ≡ bit s k * 2 ^ k
+unfolding bit
+and-digit s k =
+    let alone : 2 ^ (1 + k) - 2 ^ k ≡ 2 ^ k = omega (arith, ap (λ (x : ℕ). 2 ^ x) (one-add k), pow-suc 2 k) in
+    ap (λ (x : ℕ). bitAnd s x) (sym alone) ∙ and-high s 1 k
 
-pub digit-le : (s k : ℕ) → bit s k * 2 ^ k ≤ s
-digit-le s k = rw (digit-value s k) (go (member s k) refl)
-  where
-    go : (b : Bool) → member s k ≡ b → (if b then 2 ^ k else 0) ≤ s
-    go true e = bit-le s k (member-true s k e)
-    go false e = omega arith
-
-pub digit-shifted : (w s k : ℕ) → k < w → bit s k * 2 ^ k % 2 ^ w ≡ bit s k * 2 ^ k
-digit-shifted w s k h = mod-eq-of-lt (rw (digit-value s k) (go (member s k)))
-  where
-    go : (b : Bool) → (if b then 2 ^ k else 0) < 2 ^ w
-    go true = pow-lt h
-    go false = pow-pos w
-
-pub remove-digit : (s k : ℕ) → remove s k ≡ s - bit s k * 2 ^ k
+pub remove-and : (s k : ℕ) → remove s k ≡ s - bitAnd s (2 ^ k)
 unfolding remove
-remove-digit s k = rw (digit-value s k) (go (member s k))
+remove-and s k = rw (and-digit s k) (go (member s k) refl)
   where
-    go : (b : Bool) → (if b then s - 2 ^ k else s) ≡ s - (if b then 2 ^ k else 0)
-    go true = refl
-    go false = omega arith
+    go : (b : Bool) → member s k ≡ b → (if b then s - 2 ^ k else s) ≡ s - bit s k * 2 ^ k
+    go true e = rw (member-true s k e, one-mul (2 ^ k))
+    go false e = rw (member-false s k e) (omega arith)
 
 -- ---- sets made and struck by a rule
 

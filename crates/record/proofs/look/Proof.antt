@@ -1,12 +1,13 @@
 -- `record::look`: an empty list stays empty; else the list so far is struck of the clients passed.
 -- Assumes nothing.
-use mathlib.Core.Path.{_≡_, refl, sym}
-use Prim.Native.Nat.{_≤_, _-_}
+use mathlib.Core.Path.{_≡_, refl, sym, ap, _∙_}
+use mathlib.Core.Logic.{⊎-elim}
+use Prim.Native.Nat.{ℕ, _≤_, _-_}
 use native.Mathlib.Omega.{arith}
 use native.Mathlib.Numerals.{add-one}
 use borrow.Author.Needs.{needs}
 use lib.ListN.{getD}
-use Rattle.sets.specs.Set.{clients, strike}
+use Rattle.sets.specs.Set.{clients, remove, strike}
 use Rattle.spec.specs.Steps.{struck}
 use Rattle.record.proofs.Loops.{strike-none}
 use Rattle.record.proofs.look.Statement.{statement}
@@ -25,23 +26,26 @@ loop-holds : tie.Need-loop-holds Inv-loop μ-loop
 unfolding strike
 loop-holds c = (search needs, refl)
 
-cast-look-at : tie.Need-cast-look-at Inv-loop μ-loop
-cast-look-at c = search needs
+mul-strikes : tie.Need-mul-strikes Inv-loop μ-loop
+mul-strikes c = search needs
 
-mul-look-at : tie.Need-mul-look-at Inv-loop μ-loop
-mul-look-at c = search needs
+element-copy-out-strikes : tie.Need-element-copy-out-strikes Inv-loop μ-loop
+element-copy-out-strikes c = search needs
 
-element-copy-out-look-at : tie.Need-element-copy-out-look-at Inv-loop μ-loop
-element-copy-out-look-at c = search needs
+mul-strikes-2 : tie.Need-mul-strikes-2 Inv-loop μ-loop
+mul-strikes-2 c = search needs
 
-mul-look-at-2 : tie.Need-mul-look-at-2 Inv-loop μ-loop
-mul-look-at-2 c = search needs
+element-copy-out-strikes-2 : tie.Need-element-copy-out-strikes-2 Inv-loop μ-loop
+element-copy-out-strikes-2 c = search needs
 
-element-copy-out-look-at-2 : tie.Need-element-copy-out-look-at-2 Inv-loop μ-loop
-element-copy-out-look-at-2 c = search needs
+strikes-requires : tie.Need-strikes-requires Inv-loop μ-loop
+strikes-requires c κs = search needs
 
-look-at-requires : tie.Need-look-at-requires Inv-loop μ-loop
-look-at-requires c κs = search needs
+cast-without : tie.Need-cast-without Inv-loop μ-loop
+cast-without c = search needs
+
+without-requires : tie.Need-without-requires Inv-loop μ-loop
+without-requires c κs = search needs
 
 add-i : tie.Need-add-i Inv-loop μ-loop
 add-i c = search needs
@@ -52,8 +56,14 @@ loop-less c = search needs
 loop-again : tie.Need-loop-again Inv-loop μ-loop
 unfolding strike
 loop-again c =
-    let loop = c .before .before .before .before .loop in
-    (search needs, rw (add-one (loop .i), sym (loop .inv .1)) (c .look-at .ensures))
+    let loop = c .before .before .before .before .before .loop in (
+      search needs,
+      rw (add-one (loop .i), sym (c .before .strikes .ensures))
+          (⊎-elim
+          (λ w. rw (w .0 .taken) (w .2 ∙ w .1 .ensures ∙ ap (λ (x : ℕ). remove x (loop .i)) (loop .inv .1)))
+          (λ w. rw (w .0 .left) (w .1 ∙ loop .inv .1))
+          (c .if2 .came)),
+    )
 
 returns-2 : tie.Need-returns-2 Inv-loop μ-loop
 returns-2 c = let e : c .before .loop .i ≡ clients = omega arith in rw e at (c .before .loop .inv .1)
@@ -66,12 +76,13 @@ look-spec =
     μ-loop
     returns
     loop-holds
-    cast-look-at
-    mul-look-at
-    element-copy-out-look-at
-    mul-look-at-2
-    element-copy-out-look-at-2
-    look-at-requires
+    mul-strikes
+    element-copy-out-strikes
+    mul-strikes-2
+    element-copy-out-strikes-2
+    strikes-requires
+    cast-without
+    without-requires
     add-i
     loop-less
     loop-again
