@@ -136,8 +136,16 @@ fn every_profile_against_model_and_plain_table() {
     }
 }
 
+/// The largest figure of that name that a run has met.
+fn largest(run: &Coverage, name: &str) -> u64 {
+    let told = run.to_string();
+    let figure = told.lines().find_map(|line| line.strip_suffix(&format!(" largest {name}")));
+    figure.expect("a figure of the coverage").trim().parse().expect("a number")
+}
+
 /// The runs cannot silently become empty: every refusal but 12 (which has no form) and 11 (which ticket 2 has ended), every stage, every kind of
-/// answer and a Done without a change occur in one of them.
+/// answer and a Done without a change occur in one of them; all 64 clients are open at once, and at once in the request queue; and someone waits for
+/// more than 32.
 #[test]
 fn all_is_covered() {
     let runs: Vec<Coverage> = SEEDS.map(|seed| generated(seed, LINES, "all").0).collect();
@@ -145,6 +153,9 @@ fn all_is_covered() {
     gaps.retain(|name| runs.iter().all(|run| run.of(name) == 0));
     assert_eq!(gaps, ["refusal 12"]);
     assert!(runs.iter().all(|run| run.of("done without a change") > 0 && run.of("refusal 11") == 0));
+    let reached = |name| runs.iter().map(|run| largest(run, name)).max().expect("some runs");
+    assert_eq!([reached("clients open at once"), reached("request queue")], [64, 64]);
+    assert!(reached("commit queue") > 32 && reached("waiting") > 32);
 }
 
 /// Ticket 12: 64 clients, 0 to 63, and refusal 3 from 64 on. In generated runs each of them goes through all stages, waits in both queues, commits, has
