@@ -8,8 +8,8 @@ use Rattle.sets.specs.Choice.{if_then_else_}
 use Rattle.rows.specs.Rows.{rowAt, rowsIn}
 use Rattle.trimming.specs.Trim.{stays}
 use Rattle.removal.proofs.Moving.{stored-more}
-use Rattle.trimming.proofs.stay_flags.Statement.{statement}
-use Rattle.trimming.proofs.stay_flags.Tie as tie
+use Rattle.trimming.proofs.flags_by_number.Statement.{statement}
+use Rattle.trimming.proofs.flags_by_number.Tie as tie
 
 abbrev Inv-loop : tie.InvT-loop
 Inv-loop rows used commits entries low newest numbers flags₀ i₀ flags i =
@@ -38,8 +38,8 @@ loop-again c =
 returns : tie.Need-returns Inv-loop μ-loop
 returns c = record { size = c .before .loop .inv .0; each = λ k h. c .before .loop .inv .1 k (omega arith) }
 
-pub stay-flags-spec : {M : Type 1} → statement M
-stay-flags-spec =
+pub flags-by-number-spec : {M : Type 1} → statement M
+flags-by-number-spec =
     tie.close
     (tie.spec
     Inv-loop μ-loop note-rows-requires (λ c. search needs) (λ c κs. search needs) (λ c. search needs) (λ c. search needs) (λ c. search needs) loop-again returns)
