@@ -1,3 +1,4 @@
+pub mod Accord
 pub mod Places
 pub mod Newest
 pub mod Trimmed

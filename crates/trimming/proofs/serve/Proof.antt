@@ -181,8 +181,8 @@ pub serve-spec : {M : Type 1} → statement M
 serve-spec =
     tie.close
     (tie.spec
-    Inv-loop μ-loop (λ c κs. omega (arith, c .before .before .pre)) (λ c. search needs) (λ c. search needs) (λ c. search needs) (λ c. search needs) cast-i loop-holds (λ c κs. search needs) returns
-    (λ c. search needs) (λ c. search needs) (λ c. search needs)
-    returns-2 (λ c. search needs) (λ c. search needs) (λ c. search needs) (λ c. search needs) (λ c. search needs) (λ c. search needs) (λ c. search needs) (λ c. search needs) (λ c. search needs) (λ c. search needs)
+    Inv-loop μ-loop (λ c κs. omega (arith, c .before .before .pre)) (λ c. search needs) (λ c. search needs) (λ c. search needs) (λ c. search needs) cast-i loop-holds (λ c κs. search needs)
+    (λ c. search needs) returns (λ c. search needs) (λ c. search needs) returns-2 (λ c. search needs) (λ c. search needs) (λ c. search needs) (λ c. search needs)
+    (λ c. search needs) (λ c. search needs) (λ c. search needs) (λ c. search needs) (λ c. search needs) (λ c. search needs)
     (λ c. omega (arith, rises (c .before .before .before .before .before .before .before)))
     (λ c. omega (arith, rises (c .before .before .before .before .before .before .before))) loop-again returns-3)

@@ -40,4 +40,4 @@ returns-2 c =
     (λ e. rw (← z) (loop .inv .1), (λ e. rw (← z) (loop .inv .2), λ e. absurd (differ refl e)))
 
 pub serve-all-spec : {M : Type 1} → statement M
-serve-all-spec = tie.close (tie.spec Inv-loop μ-loop (λ c. search needs) (λ c. search needs) serve-requires (λ c. search needs) loop-again returns returns-2)
+serve-all-spec = tie.close (tie.spec Inv-loop μ-loop (λ c. search needs) (λ c. search needs) serve-requires (λ c. search needs) (λ c. search needs) loop-again returns returns-2)
