@@ -153,7 +153,7 @@ pub fn trim(store: Store, rows: &mut [u8], commits: &mut [u8]) -> FigureTurn
     let low = record::lowest(store);
     let used = store.used as usize;
     let entries = store.entries as usize;
-    let left = trimming::trim(rows, used, commits, entries, low);
+    let left = marking::trim(rows, used, commits, entries, low);
     let kept = left.rows as u32;
     let rest = left.commits as u32;
     let mut next = store;

@@ -1,12 +1,3 @@
-pub mod Accord
 pub mod Places
 pub mod Newest
 pub mod Trimmed
-pub mod Order
-pub mod Chains
-pub mod Walks
-pub mod Entries
-pub mod Open
-pub mod Stamps
-pub mod Serving
-pub mod Marking

@@ -13,7 +13,6 @@ use Rattle.removal.specs.Kept.{keptFrom, Flags, Left}
 use Rattle.removal.proofs.Moving.{kept-where, filter-all, left-all}
 use Rattle.trimming.specs.Trim.{overtaken, stays, inUse, trimmedRows, trimmedCommits}
 use Rattle.trimming.specs.Trimmed.{Trimmed}
-use Rattle.trimming.specs.Done.{Kept}
 
 pub trimmed : (low n m : ℕ) (s c flags marks s′ c′ : List ℕ) (n′ m′ : ℕ)
     → 24 * n ≤ length s
@@ -30,19 +29,6 @@ trimmed low n m s c flags marks s′ c′ n′ m′ l f first g second =
     let rows : rowsIn 24 n′ s′ ≡ left = rw (one .rows, one .bytes) (rows-laid 24 n left s (filter-wide 24 p (rowsIn 24 n s) (rows-wide 24 n s l))) in
     let two : Left 8 m (filter (inUse (rowsIn 24 n′ s′)) (rowsIn 8 m c)) c c′ m′ = rw (kept-where (inUse (rowsIn 24 n′ s′)) marks 8 m c g) at second in
     record { data-rows = one; commit-rows = rw rows at two }
-
--- the same by flags that were both set before
-pub trimmed-kept : (low n m : ℕ) (s c flags uses s′ c′ : List ℕ) (n′ m′ : ℕ)
-    → Kept low n m s c flags uses
-    → Left 24 n (keptFrom flags 0 (rowsIn 24 n s)) s s′ n′
-    → Left 8 m (keptFrom uses 0 (rowsIn 8 m c)) c c′ m′
-    → Trimmed low n m s c s′ c′ n′ m′
-unfolding trimmedRows trimmedCommits
-trimmed-kept low n m s c flags uses s′ c′ n′ m′ k first second =
-    record {
-      data-rows = rw (kept-where (stays low (rowsIn 24 n s) (rowsIn 8 m c)) flags 24 n s (k .rows)) at first;
-      commit-rows = rw (kept-where (inUse (trimmedRows low (rowsIn 24 n s) (rowsIn 8 m c))) uses 8 m c (k .entries)) at second;
-    }
 
 -- no row is committed
 pub untrimmed : (low n : ℕ) (s c : List ℕ) → Trimmed low n 0 s c s c n 0

@@ -1,7 +1,8 @@
--- By flags that were both set before, or the old way; no row goes where none is committed.
-use mathlib.Core.Path.{refl}
+-- Two removals, the second by what the first left; none where no row is committed.
 use borrow.Author.Needs.{needs}
-use Rattle.trimming.proofs.Trimmed.{trimmed-kept, untrimmed}
+use native.Mathlib.Omega.{arith}
+use Rattle.removal.proofs.Moving.{kept-at-most}
+use Rattle.trimming.proofs.Trimmed.{trimmed, untrimmed}
 use Rattle.trimming.proofs.trim.Statement.{statement}
 use Rattle.trimming.proofs.trim.Tie as tie
 
@@ -10,23 +11,27 @@ returns c =
     let a = c .before .before .before .args in
     rw (c .if1 .taken) (untrimmed (a .low) (a .used) (a .rows .now) (a .commits .now))
 
-from-newest-requires : tie.Need-from-newest-requires
-from-newest-requires c κs =
-    let pre = c .before .before .before .before .before .before .before .before .pre in
-    (pre .0, (pre .1 .0, (pre .1 .1 .0, (pre .1 .1 .1, (refl, (refl, refl))))))
+commit-flags-requires : tie.Need-commit-flags-requires
+commit-flags-requires c κs =
+    let start = c .before .before .before .before .before .before .before .before .before .before .before .before .before in
+    let a = start .args in
+    let first = c .before .before .before .before .close-up in
+    let few = kept-at-most (c .before .before .before .before .before .before .before .stay-flags .result) 24 (a .used) (a .rows .now) in
+    omega (arith, first .ensures .rows, first .kept .0, start .pre)
 
 returns-2 : tie.Need-returns-2
 returns-2 c =
-    let a = c .before .before .before .before .before .before .before .before .before .before .before .before .before .before .before .before .before .before .before .before .args in
-    let newest = c .before .before .before .before .before .before .before .before .before .before .before .from-newest in
-    let kept = newest .ensures .1 .1 (c .before .before .before .before .before .before .before .before .before .before .if2 .taken) in
-    let first = c .before .before .before .before .before .before .before .close-up in
+    let start = c .before .before .before .before .before .before .before .before .before .before .before .before .before .before .before .before .before .before .before in
+    let a = start .args in
+    let stay = c .before .before .before .before .before .before .before .before .before .before .before .before .before .stay-flags in
+    let first = c .before .before .before .before .before .before .before .before .before .before .close-up in
+    let marks = c .before .before .before .before .before .commit-flags in
     let second = c .before .before .close-up2 in
-    trimmed-kept (a .low) (a .used) (a .entries) (a .rows .now) (a .commits .now) _ _ (first .last .0) (second .last .0) (first .result) (second .result) kept
-    (first .ensures) (second .ensures)
+    trimmed (a .low) (a .used) (a .entries) (a .rows .now) (a .commits .now) (stay .result) (marks .result) (first .last .0) (second .last .0) (first .result) (second .result)
+    (start .pre .0) (stay .ensures) (first .ensures) (marks .ensures) (second .ensures)
 
 pub trim-spec : {M : Type 1} → statement M
 trim-spec =
     tie.close
     (tie.spec
-    returns from-newest-requires (λ c κs. search needs) (λ c κs. search needs) (λ c. search needs) (λ c. search needs) returns-2 (λ c κs. search needs) (λ c. search needs) (λ c. search needs) (λ c. search needs))
+    returns (λ c κs. search needs) (λ c κs. search needs) commit-flags-requires (λ c κs. search needs) (λ c. search needs) (λ c. search needs) returns-2)

@@ -1,0 +1,113 @@
+-- Ticket 4's sentences in accord with the definitions: literal rows that are orderly or not, and the cells that are served from each committed row on.
+-- Assumes nothing.
+use Prim.Native.Nat.{ℕ}
+use mathlib.Core.Path.{_≡_, refl}
+use mathlib.Core.Bool.{true, false}
+use mathlib.Core.List.{List, [], _∷_}
+use Rattle.rows.specs.Rows.{Row, dataRow, commitRow, bytesOf, number, tagOf, cellOf, commitTag, commitNumber}
+use Rattle.search.specs.Look.{isOwn}
+use Rattle.search.specs.Share.{any, wrote}
+use Rattle.marking.specs.Served.{under, commits, orderlyCommits, orderlyRows, orderly, serves, served}
+
+abbrev value : List ℕ
+value = 0 ∷ 1 ∷ 2 ∷ 3 ∷ 4 ∷ 5 ∷ 6 ∷ 7 ∷ 8 ∷ 9 ∷ 10 ∷ 11 ∷ 12 ∷ 13 ∷ 14 ∷ 15 ∷ []
+
+-- a data row of that tag and cell
+abbrev row : ℕ → ℕ → Row
+row tag cell = dataRow tag cell value
+
+-- ---- "Bytes in which commit numbers don't rise, a committed tag repeats, one tag holds a cell twice or a cell is above 1,023 are worked the old way."
+
+-- commit numbers rise, the tags need not
+pub rising : orderly [] (commitRow 1 9 ∷ commitRow 2 3 ∷ commitRow 70000 5 ∷ []) ≡ true
+unfolding orderly orderlyCommits orderlyRows under commits any commitTag commitNumber number commitRow bytesOf
+rising = refl
+
+pub equal-numbers : orderly [] (commitRow 1 1 ∷ commitRow 2 2 ∷ commitRow 2 3 ∷ []) ≡ false
+unfolding orderly orderlyCommits orderlyRows under commits any commitTag commitNumber number commitRow bytesOf
+equal-numbers = refl
+
+pub falling-numbers : orderly [] (commitRow 2 1 ∷ commitRow 1 2 ∷ commitRow 3 3 ∷ []) ≡ false
+unfolding orderly orderlyCommits orderlyRows under commits any commitTag commitNumber number commitRow bytesOf
+falling-numbers = refl
+
+-- a tag repeats, next to its row or further on
+pub neighbour-tag : orderly [] (commitRow 1 4 ∷ commitRow 2 4 ∷ []) ≡ false
+unfolding orderly orderlyCommits orderlyRows under commits any commitTag commitNumber number commitRow bytesOf
+neighbour-tag = refl
+
+pub distant-tag : orderly [] (commitRow 1 4 ∷ commitRow 2 5 ∷ commitRow 3 4 ∷ []) ≡ false
+unfolding orderly orderlyCommits orderlyRows under commits any commitTag commitNumber number commitRow bytesOf
+distant-tag = refl
+
+-- one cell under two tags, two cells under one
+pub apart : orderly (row 1 7 ∷ row 2 7 ∷ row 1 8 ∷ []) (commitRow 1 1 ∷ commitRow 2 2 ∷ []) ≡ true
+unfolding orderly orderlyCommits orderlyRows under commits any wrote isOwn tagOf cellOf commitTag commitNumber number dataRow commitRow bytesOf
+apart = refl
+
+-- one tag holds a cell twice: committed, and not committed
+pub cell-twice : orderly (row 1 7 ∷ row 2 7 ∷ row 1 7 ∷ []) (commitRow 1 1 ∷ []) ≡ false
+unfolding orderly orderlyCommits orderlyRows under commits any wrote isOwn tagOf cellOf commitTag commitNumber number dataRow commitRow bytesOf
+cell-twice = refl
+
+pub open-cell-twice : orderly (row 5 7 ∷ row 1 7 ∷ row 5 7 ∷ []) (commitRow 1 1 ∷ []) ≡ false
+unfolding orderly orderlyCommits orderlyRows under commits any wrote isOwn tagOf cellOf commitTag commitNumber number dataRow commitRow bytesOf
+open-cell-twice = refl
+
+-- the last cell, and one above it, which an index of ten bits takes for cell 0
+pub cell-1023 : orderly (row 1 1023 ∷ []) (commitRow 1 1 ∷ []) ≡ true
+unfolding orderly orderlyCommits orderlyRows under commits any wrote isOwn tagOf cellOf commitTag commitNumber number dataRow commitRow bytesOf
+cell-1023 = refl
+
+pub cell-1024 : orderly (row 1 1024 ∷ []) (commitRow 1 1 ∷ []) ≡ false
+unfolding orderly orderlyCommits orderlyRows under commits any wrote isOwn tagOf cellOf commitTag commitNumber number dataRow commitRow bytesOf
+cell-1024 = refl
+
+-- ---- "after each committed row the marked cells are exactly those that it or a later one, numbered at most low, wrote"
+
+-- tags 1, 2 and 3 are committed under 1, 2 and 3; tag 4 is not
+abbrev ds : List Row
+ds = row 1 7 ∷ row 3 9 ∷ row 2 8 ∷ row 4 6 ∷ []
+
+abbrev last : List Row
+last = commitRow 3 3 ∷ []
+
+abbrev last-two : List Row
+last-two = commitRow 2 2 ∷ last
+
+abbrev all : List Row
+all = commitRow 1 1 ∷ last-two
+
+-- where low is 2 the last row marks nothing, the one before it cell 8, the first cell 7 too
+pub above-low : served 2 ds last 9 ≡ false
+unfolding served serves any wrote isOwn tagOf cellOf commitTag commitNumber number dataRow commitRow bytesOf
+above-low = refl
+
+pub at-low : served 2 ds last-two 8 ≡ true
+unfolding served serves any wrote isOwn tagOf cellOf commitTag commitNumber number dataRow commitRow bytesOf
+at-low = refl
+
+pub not-yet : served 2 ds last-two 7 ≡ false
+unfolding served serves any wrote isOwn tagOf cellOf commitTag commitNumber number dataRow commitRow bytesOf
+not-yet = refl
+
+pub first-marks : served 2 ds all 7 ≡ true
+unfolding served serves any wrote isOwn tagOf cellOf commitTag commitNumber number dataRow commitRow bytesOf
+first-marks = refl
+
+pub still : served 2 ds all 8 ≡ true
+unfolding served serves any wrote isOwn tagOf cellOf commitTag commitNumber number dataRow commitRow bytesOf
+still = refl
+
+pub never : served 2 ds all 9 ≡ false
+unfolding served serves any wrote isOwn tagOf cellOf commitTag commitNumber number dataRow commitRow bytesOf
+never = refl
+
+-- where low is 3 the last row marks cell 9; what is not committed is marked by none
+pub up-to-low : served 3 ds last 9 ≡ true
+unfolding served serves any wrote isOwn tagOf cellOf commitTag commitNumber number dataRow commitRow bytesOf
+up-to-low = refl
+
+pub not-committed : served 3 ds all 6 ≡ false
+unfolding served serves any wrote isOwn tagOf cellOf commitTag commitNumber number dataRow commitRow bytesOf
+not-committed = refl

@@ -1,0 +1,10 @@
+pub mod Accord
+pub mod Order
+pub mod Chains
+pub mod Walks
+pub mod Entries
+pub mod Open
+pub mod Stamps
+pub mod Serving
+pub mod Marking
+pub mod Trimmed

@@ -1,0 +1,43 @@
+-- After committed row j the marks, the flags and what else is known are right.
+use Prim.Native.Nat.{_+_, _-_, _≤_, _<_}
+use mathlib.Core.Path.{_≡_, refl}
+use borrow.Author.Needs.{needs}
+use native.Mathlib.Omega.{arith}
+use Rattle.marking.specs.Served.{Marks}
+use Rattle.marking.specs.Done.{Done}
+use Rattle.marking.proofs.Order.{differ}
+use Rattle.marking.proofs.serve_all.Statement.{statement}
+use Rattle.marking.proofs.serve_all.Tie as tie
+
+abbrev Inv-loop : tie.InvT-loop
+Inv-loop rows used commits entries low firsts follows seen₀ marks₀ flags₀ uses₀ j₀ seen marks flags uses j =
+    (j ≤ entries) × Marks low used entries rows commits j marks × Done low used entries rows commits j seen flags uses
+
+abbrev μ-loop : tie.MeasureT-loop
+μ-loop rows used commits entries low firsts follows seen₀ marks₀ flags₀ uses₀ j₀ seen marks flags uses j = j
+
+serve-requires : tie.Need-serve-requires Inv-loop μ-loop
+serve-requires c κs =
+    let pre = c .before .before .before .before .before .before .before .before .pre in
+    let loop = c .before .before .before .before .before .loop in
+    let z : loop .j - 1 + 1 ≡ loop .j = omega (arith, c .before .before .before .before .loop-test .taken) in
+    let h : loop .j - 1 < c .before .before .before .before .before .before .before .before .args .entries = omega (arith, loop .inv .0, c .before .before .before .before .loop-test .taken) in
+    (pre .0, (pre .1 .0, (pre .1 .1 .0, (pre .1 .1 .1 .0, (pre .1 .1 .1 .1 .0, (h, (pre .1 .1 .1 .1 .1 .0, (rw z (loop .inv .1), rw z (loop .inv .2)))))))))
+
+loop-again : tie.Need-loop-again Inv-loop μ-loop
+loop-again c =
+    let served = c .before .serve in
+    let e = c .if1 .taken in
+    (omega (arith, c .before .before .before .before .before .before .before .loop .inv .0), served .ensures .0 e, served .ensures .1 .0 e)
+
+returns : tie.Need-returns Inv-loop μ-loop
+returns c = (λ e. absurd (differ e refl), (λ e. absurd (differ e refl), λ e. c .before .serve .ensures .1 .1 (c .if1 .left)))
+
+returns-2 : tie.Need-returns-2 Inv-loop μ-loop
+returns-2 c =
+    let loop = c .before .loop in
+    let z : loop .j ≡ 0 = omega (arith, c .loop-test .left) in
+    (λ e. rw (← z) (loop .inv .1), (λ e. rw (← z) (loop .inv .2), λ e. absurd (differ refl e)))
+
+pub serve-all-spec : {M : Type 1} → statement M
+serve-all-spec = tie.close (tie.spec Inv-loop μ-loop (λ c. search needs) (λ c. search needs) serve-requires (λ c. search needs) (λ c. search needs) loop-again returns returns-2)
