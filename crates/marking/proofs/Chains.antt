@@ -1,17 +1,17 @@
 -- Chains of rows. Rows are linked from the last to the first. A walk over a chain meets every row of its place: whatever takes no notice of
 -- rows of other places is the same from a row on as from the next row of the chain on.
 -- Assumes nothing.
-use Prim.Native.Nat.{ℕ, zero, suc, _+_, _-_, _≤_, _<_}
-use native.Mathlib.Nat.{add-zero}
+use Prim.Native.Nat.{ℕ, _+_, _≤_, _<_}
 use mathlib.Core.Path.{_≡_, sym, _∙_}
 use mathlib.Core.List.{List}
 use lib.ListN.{length, getD, set, replicate, length-set, length-replicate, getD-replicate}
 use lib.Seq.{getD-set-same, getD-set-other}
-use native.Mathlib.Decide.{decLt, ℕ-discrete}
+use native.Mathlib.Decide.{ℕ-discrete}
 use native.Mathlib.Omega.{arith}
 use Rattle.search.specs.Passes.{Next}
 use Rattle.search.proofs.Passes.{skip}
 use Rattle.marking.specs.Chains.{Linked, Chain}
+use Rattle.marking.proofs.Nexts.{next-none, next-here, next-past, carry}
 
 module _ (key : ℕ → ℕ) (n : ℕ) where
   pub linked-none : (nexts : List ℕ) → length nexts ≡ 1024 → Linked key n n (replicate 4096 n) nexts
@@ -19,26 +19,9 @@ module _ (key : ℕ → ℕ) (n : ℕ) where
       record {
         size = length-replicate {A = ℕ} 4096 n;
         room = e;
-        head = λ x h. rw (getD-replicate {A = ℕ} 4096 x n 0 h) (record { start = omega arith; end = omega arith; misses = λ k a b f. omega arith; hit = λ a. absurd (omega arith) });
+        head = λ x h. rw (getD-replicate {A = ℕ} 4096 x n 0 h) (next-none n);
         next = λ k a b g. absurd (omega arith);
       }
-
-  -- row k is the first of its place
-  linked-here : (x k : ℕ) → k < n → key k ≡ x → Next (λ j. key j ≡ x) k n k
-  linked-here x k h e = record { start = omega arith; end = omega arith; misses = λ j a b f. omega arith; hit = λ a. e }
-
-  -- row k is of another place
-  linked-past : (x k r : ℕ) → (key k ≡ x → ⊥) → Next (λ j. key j ≡ x) (k + 1) n r → Next (λ j. key j ≡ x) k n r
-  linked-past x k r ne pass = record { start = omega (arith, pass .start); end = pass .end; misses = misses; hit = pass .hit }
-    where
-      misses : (j : ℕ) → k ≤ j → j < r → key j ≡ x → ⊥
-      misses j a b f = go (decLt k j)
-        where
-          go : Dec (k < j) → ⊥
-          go (yes l) = pass .misses j (omega arith) b f
-          go (no l) =
-              let z : k ≡ j = omega (arith, l) in
-              ne (rw z f)
 
   pub linked-more : (heads nexts : List ℕ) (x k : ℕ) → x < 4096 → k < 1024 → k < n → key k ≡ x → Linked key n (k + 1) heads nexts
       → Linked key n k (set heads x k) (set nexts k (getD heads x 0))
@@ -46,8 +29,8 @@ module _ (key : ℕ → ℕ) (n : ℕ) where
       record { size = simp length-set (l .size); room = simp length-set (l .room); head = λ y g. head y g (ℕ-discrete y x); next = λ j g f r. next j g f r (ℕ-discrete j k) }
     where
       head : (y : ℕ) → y < 4096 → Dec (y ≡ x) → Next (λ j. key j ≡ y) k n (getD (set heads x k) y 0)
-      head y g (yes q) = rw (q, getD-set-same heads x k 0 (omega (arith, l .size))) (linked-here x k h e)
-      head y g (no q) = rw (getD-set-other heads x y k 0 q) (linked-past y k (getD heads y 0) (λ f. q (sym f ∙ e)) (l .head y g))
+      head y g (yes q) = rw (q, getD-set-same heads x k 0 (omega (arith, l .size))) (next-here k h e)
+      head y g (no q) = rw (getD-set-other heads x y k 0 q) (next-past k (getD heads y 0) (λ f. q (sym f ∙ e)) (l .head y g))
 
       next : (j : ℕ) → k ≤ j → j < n → key j < 4096 → Dec (j ≡ k) → Next (λ i. key i ≡ key j) (j + 1) n (getD (set nexts k (getD heads x 0)) j 0)
       next j g f r (yes q) = rw (q, getD-set-same nexts k (getD heads x 0) 0 (omega (arith, l .room)), e) (l .head x a)
@@ -56,7 +39,7 @@ module _ (key : ℕ → ℕ) (n : ℕ) where
   -- a row that has no place is not linked
   pub linked-less : (heads nexts : List ℕ) (k : ℕ) → 4096 ≤ key k → Linked key n (k + 1) heads nexts → Linked key n k heads nexts
   linked-less heads nexts k b l =
-      record { size = l .size; room = l .room; head = λ x g. linked-past x k (getD heads x 0) (λ e. omega (arith, e)) (l .head x g); next = λ j g f r. next j g f r (ℕ-discrete j k) }
+      record { size = l .size; room = l .room; head = λ x g. next-past k (getD heads x 0) (λ e. omega (arith, e)) (l .head x g); next = λ j g f r. next j g f r (ℕ-discrete j k) }
     where
       next : (j : ℕ) → k ≤ j → j < n → key j < 4096 → Dec (j ≡ k) → Next (λ i. key i ≡ key j) (j + 1) n (getD nexts j 0)
       next j g f r (yes q) = absurd (omega (arith, rw q at r))
@@ -89,19 +72,6 @@ module _ (key : ℕ → ℕ) (n : ℕ) where
 
   pub head-skip : {A : Type 0} (F : ℕ → A) (heads nexts : List ℕ) (x i : ℕ) → x < 4096 → Linked key n i heads nexts → ((k : ℕ) → k < n → (key k ≡ x → ⊥) → F k ≡ F (k + 1)) → F i ≡ F (getD heads x 0)
   head-skip F heads nexts x i h l same = skip F (l .head x h) same
-
--- what holds on past every row of another place holds from a row on to the next one of the chain
-carry-by : (P : ℕ → Type 0) (d from : ℕ) → ((k : ℕ) → from ≤ k → k < from + d → P k → P (k + 1)) → P from → P (from + d)
-carry-by P zero from more p = rw add-zero p
-carry-by P (suc d) from more p =
-    let e : from + 1 + d ≡ from + suc d = omega arith in
-    rw (← e) (carry-by P d (from + 1) (λ k l b. more k (omega arith) (omega arith)) (more from (omega arith) (omega arith) p))
-
-carry : {Hit : ℕ → Type 0} {from n r : ℕ} (P : ℕ → Type 0) → Next Hit from n r → ((k : ℕ) → k < n → (Hit k → ⊥) → P k → P (k + 1)) → P from → P r
-carry {from = from} {r = r} P pass more p =
-    let e : from + (r - from) ≡ r = omega (arith, pass .start) in
-    let q : P (from + (r - from)) = carry-by P (r - from) from (λ k l b. more k (omega (arith, pass .end)) (pass .misses k l (omega (arith, pass .start)))) p in
-    rw e at q
 
 module _ (key : ℕ → ℕ) (n : ℕ) (P : ℕ → Type 0) (nexts : List ℕ) (x : ℕ) (more : (k : ℕ) → k < n → (key k ≡ x → ⊥) → P k → P (k + 1)) where
   pub chain-carry : (i : ℕ) → i < n → Chain key n nexts x i → P (i + 1) → P (getD nexts i 0)

@@ -18,18 +18,10 @@ use Rattle.search.specs.Share.{any}
 use Rattle.search.specs.Passes.{Next}
 use Rattle.search.proofs.Folds.{to-start}
 use Rattle.trimming.specs.Places.{place}
-use Rattle.marking.specs.Chains.{tagPlace, entryOf, rowEntry, Linked, Entries, Alike}
+use Rattle.marking.specs.Chains.{tagPlace, entryOf, rowEntry, Linked, RowEntries, Alike}
 use Rattle.marking.specs.Served.{commits, orderlyCommits}
+use Rattle.marking.proofs.Nexts.{next-none, next-here, next-past, next-one}
 use Rattle.marking.proofs.Order.{both-ways, some-from, from-at, distinct}
-
--- there is one next hit
-pub next-one : {Hit : ℕ → Type 0} {from n : ℕ} (r q : ℕ) → Next Hit from n r → Next Hit from n q → r ≡ q
-next-one r q a b = go (decLt r q) (decLt q r)
-  where
-    go : Dec (r < q) → Dec (q < r) → r ≡ q
-    go (yes l) d = absurd (b .misses r (a .start) l (a .hit (omega (arith, b .end))))
-    go (no l) (yes g) = absurd (a .misses q (b .start) g (b .hit (omega (arith, a .end))))
-    go (no l) (no g) = omega (arith, l, g)
 
 module _ (tag m : ℕ) (c : List ℕ) where
   abbrev Hit : ℕ → Type 0
@@ -38,24 +30,15 @@ module _ (tag m : ℕ) (c : List ℕ) where
   abbrev Rest : ℕ → ℕ
   Rest i = entryOf tag (rowsFrom 8 m i c)
 
-  past : (i r : ℕ) → (Hit i → ⊥) → Next Hit (i + 1) m r → Next Hit i m r
-  past i r ne p = record { start = omega (arith, p .start); end = p .end; misses = λ k a b. misses k a b (decLt i k); hit = p .hit }
-    where
-      misses : (k : ℕ) → i ≤ k → k < r → Dec (i < k) → Hit k → ⊥
-      misses k a b (yes l) f = p .misses k (omega arith) b f
-      misses k a b (no l) f =
-          let z : i ≡ k = omega (arith, l) in
-          ne (rw z f)
-
   step : (i : ℕ) → i < m → Next Hit (i + 1) m (i + 1 + Rest (i + 1)) → Next Hit i m (i + Rest i)
   unfolding entryOf
   step i h p = rw (rows-step 8 m i c h) (go (eqb (commitTag (rowAt 8 i c)) tag) refl)
     where
       go : (b : Bool) → eqb (commitTag (rowAt 8 i c)) tag ≡ b → Next Hit i m (i + (if b then 0 else suc (Rest (i + 1))))
-      go true e = record { start = omega arith; end = omega arith; misses = λ k a b f. omega arith; hit = λ a. rw add-zero (eqb-true _ _ e) }
+      go true e = rw add-zero (next-here i h (eqb-true _ _ e))
       go false e =
           let z : i + 1 + Rest (i + 1) ≡ i + suc (Rest (i + 1)) = omega arith in
-          rw (← z) (past i (i + 1 + Rest (i + 1)) (eqb-false _ _ e) p)
+          rw (← z) (next-past i (i + 1 + Rest (i + 1)) (eqb-false _ _ e) p)
 
   pub entry-next : Next Hit 0 m (entryOf tag (rowsIn 8 m c))
   unfolding entryOf
@@ -63,7 +46,7 @@ module _ (tag m : ℕ) (c : List ℕ) where
       let z : 0 + Rest 0 ≡ Rest 0 = omega arith in
       rw (rows-start 8 m c, ← z)
       (to-start (λ i. Next Hit i m (i + Rest i)) m
-      (rw (rows-end 8 m m c (omega arith)) (record { start = omega arith; end = omega arith; misses = λ k a b f. omega arith; hit = λ a. absurd (omega arith) }))
+      (rw (rows-end 8 m m c (omega arith), add-zero) (next-none m))
       step)
 
 module _ (m : ℕ) (c s : List ℕ) (k : ℕ) where
@@ -122,7 +105,7 @@ stored-less F s n i v h all e k a b = go (ℕ-discrete k i)
 -- ---- the committed row of each data row, as a table
 
 module _ (n m : ℕ) (s c entry : List ℕ) where
-  pub entries-alike : m ≤ 1024 → Entries n m s c entry → Alike n s entry
+  pub entries-alike : m ≤ 1024 → RowEntries n m s c entry → Alike n s entry
   entries-alike b t =
       record {
         size = t .size;
@@ -130,7 +113,7 @@ module _ (n m : ℕ) (s c entry : List ℕ) where
         each = λ i k h l e. t .each i h ∙ ap (λ (tag : ℕ). entryOf tag (rowsIn 8 m c)) e ∙ sym (t .each k l);
       }
 
-  pub entries-open : (r : ℕ) → Entries n m s c entry → Next (λ k. rowEntry m c s k ≡ m) 0 n r → Next (λ k. getD entry k 0 ≡ m) 0 n r
+  pub entries-open : (r : ℕ) → RowEntries n m s c entry → Next (λ k. rowEntry m c s k ≡ m) 0 n r → Next (λ k. getD entry k 0 ≡ m) 0 n r
   entries-open r t p =
       record {
         start = p .start;

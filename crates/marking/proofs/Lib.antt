@@ -1,4 +1,5 @@
 pub mod Accord
+pub mod Nexts
 pub mod Order
 pub mod Chains
 pub mod Walks

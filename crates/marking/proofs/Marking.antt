@@ -17,9 +17,9 @@ use Rattle.search.specs.Share.{any}
 use Rattle.search.proofs.Folds.{if-same, if-itself, any-step, any-end, any-at, commit-none, tag-yes, tag-no, to-start}
 use Rattle.removal.specs.Kept.{Flags}
 use Rattle.trimming.specs.Trim.{overtaken, stays, inUse, trimmedRows}
-use Rattle.marking.specs.Chains.{rowEntry, Entries}
+use Rattle.marking.specs.Chains.{rowEntry, RowEntries}
 use Rattle.marking.specs.Served.{commits, orderlyCommits, orderlyRows, serves, served, Marks}
-use Rattle.marking.specs.Done.{Plain, Judged, Used, Done, Kept}
+use Rattle.marking.specs.SoFar.{Plain, Judged, Used, SoFar, Flagged}
 use Rattle.marking.proofs.Order.{differ, both-ways, some-in, alone, stays-served, plain-more, plain-end}
 use Rattle.marking.proofs.Walks.{tag-miss, tag-here}
 use Rattle.marking.proofs.Entries.{entry-next, entry-tag}
@@ -135,7 +135,7 @@ module _ (low n m : ℕ) (s c : List ℕ) where
         each = λ k a g. absurd (omega arith);
       }
 
-  pub done-start : n ≤ 1024 → m ≤ 1024 → Done low n m s c m (replicate 1024 0) (replicate 1024 1) (replicate 1024 0)
+  pub done-start : n ≤ 1024 → m ≤ 1024 → SoFar low n m s c m (replicate 1024 0) (replicate 1024 1) (replicate 1024 0)
   done-start b d =
       record {
         room = length-replicate {A = ℕ} 1024 0;
@@ -145,12 +145,12 @@ module _ (low n m : ℕ) (s c : List ℕ) where
         used = used-start d;
       }
 
-  pub done-end : (seen flags uses : List ℕ) → Done low n m s c 0 seen flags uses → Kept low n m s c flags uses
+  pub done-end : (seen flags uses : List ℕ) → SoFar low n m s c 0 seen flags uses → Flagged low n m s c flags uses
   done-end seen flags uses d =
       record { rows = judged-end flags (d .judged); entries = record { size = d .used .size; each = λ k h. d .used .each k (omega arith) h } }
 
   -- every row is plain: those of committed transactions, and the others
-  pub all-plain : (seen flags uses entry : List ℕ) → Done low n m s c 0 seen flags uses → Entries n m s c entry → ((k : ℕ) → k < n → getD entry k 0 ≡ m → Plain n s k)
+  pub all-plain : (seen flags uses entry : List ℕ) → SoFar low n m s c 0 seen flags uses → RowEntries n m s c entry → ((k : ℕ) → k < n → getD entry k 0 ≡ m → Plain n s k)
       → orderlyRows (rowsIn 24 n s) ≡ true
   all-plain seen flags uses entry d t rest =
       rw (rows-start 24 n s)
@@ -241,7 +241,7 @@ module _ (low n m : ℕ) (s c : List ℕ) where
             each k a b (yes z) = rw (z, in-use) (here ∙ rw (u .before j (omega arith)))
             each k a b (no z) = others k z ∙ u .each k (omega (arith, a, z)) b
 
-      module _ (ordered : orderlyCommits (rowsIn 8 m c) ≡ true) (seen₀ flags₀ uses₀ : List ℕ) (d : Done low n m s c (j + 1) seen₀ flags₀ uses₀)
+      module _ (ordered : orderlyCommits (rowsIn 8 m c) ≡ true) (seen₀ flags₀ uses₀ : List ℕ) (d : SoFar low n m s c (j + 1) seen₀ flags₀ uses₀)
           (seen marks flags uses : List ℕ) (i : ℕ) (e : n ≤ i)
           (sv : Serving (leb (commitNumber (rowAt 8 j c)) low) own (j + 1) n j s marks₀ flags₀ uses₀ marks flags uses i) (st : Stamped own (j + 1) n s seen₀ seen i) where
         pub marks-done : Marks low n m s c j marks
@@ -251,7 +251,7 @@ module _ (low n m : ℕ) (s c : List ℕ) where
         plain : (k : ℕ) → k < n → tagOf (rowAt 24 k s) ≡ own → Plain n s k
         plain = stamped-plain own (j + 1) n s seen₀ seen i e st
 
-        pub done-more : Done low n m s c j seen flags uses
+        pub done-more : SoFar low n m s c j seen flags uses
         done-more =
             record {
               room = st .room;

@@ -14,7 +14,7 @@ use Rattle.search.specs.Share.{wrote}
 use Rattle.trimming.specs.Places.{place}
 use Rattle.marking.specs.Chains.{pairPlace, openPlace, Linked, Alike, PairWalk}
 use Rattle.marking.specs.Served.{orderlyRows}
-use Rattle.marking.specs.Done.{Plain}
+use Rattle.marking.specs.SoFar.{Plain}
 use Rattle.marking.proofs.Chains.{linked-none, linked-less, chain-start, head-skip}
 use Rattle.marking.proofs.Walks.{own-miss}
 use Rattle.marking.proofs.Order.{displain, plain-large, plain-twice}

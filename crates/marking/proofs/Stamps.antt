@@ -16,7 +16,7 @@ use Rattle.search.specs.Look.{isOwn}
 use Rattle.search.specs.Share.{wrote}
 use Rattle.search.proofs.Folds.{own-yes}
 use Rattle.marking.specs.Served.{orderlyRows}
-use Rattle.marking.specs.Done.{Plain}
+use Rattle.marking.specs.SoFar.{Plain}
 use Rattle.marking.proofs.Order.{differ, if-left, if-right, some-from, from-at, displain, plain-twice}
 
 -- Rows before i are done: the cells of those with the tag are below 1,024 and differ, and exactly they are stamped. seen₀ is what was stamped before.

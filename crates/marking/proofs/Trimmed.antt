@@ -7,10 +7,10 @@ use Rattle.removal.specs.Kept.{keptFrom, Left}
 use Rattle.removal.proofs.Moving.{kept-where}
 use Rattle.trimming.specs.Trim.{stays, inUse, trimmedRows, trimmedCommits}
 use Rattle.trimming.specs.Trimmed.{Trimmed}
-use Rattle.marking.specs.Done.{Kept}
+use Rattle.marking.specs.SoFar.{Flagged}
 
 pub trimmed-kept : (low n m : ℕ) (s c flags uses s′ c′ : List ℕ) (n′ m′ : ℕ)
-    → Kept low n m s c flags uses
+    → Flagged low n m s c flags uses
     → Left 24 n (keptFrom flags 0 (rowsIn 24 n s)) s s′ n′
     → Left 8 m (keptFrom uses 0 (rowsIn 8 m c)) c c′ m′
     → Trimmed low n m s c s′ c′ n′ m′

@@ -49,7 +49,7 @@ abbrev pub openPlace : ℕ → List ℕ → List ℕ → ℕ → ℕ
 openPlace m entry s k = if eqb (getD entry k 0) m then pairPlace (place (tagOf (rowAt 24 k s))) (cellOf (rowAt 24 k s)) else 4096
 
 -- the committed row of each of n data rows
-pub record Entries (n m : ℕ) (s c entry : List ℕ) : Type 0 where
+pub record RowEntries (n m : ℕ) (s c entry : List ℕ) : Type 0 where
   pub size : length entry ≡ 1024
   pub each : (k : ℕ) → k < n → getD entry k 0 ≡ rowEntry m c s k
 

@@ -1,3 +1,3 @@
 pub mod Chains
 pub mod Served
-pub mod Done
+pub mod SoFar

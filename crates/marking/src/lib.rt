@@ -9,9 +9,9 @@ ghost use Rattle.search.specs.Share.{wrote};
 ghost use Rattle.search.specs.Passes.{Next};
 ghost use Rattle.trimming.specs.Trimmed.{Trimmed};
 ghost use Rattle.trimming.specs.Places.{place};
-ghost use Rattle.marking.specs.Chains.{tagPlace, entryOf, rowEntry, pairPlace, Linked, Chain, Entries, Alike, PairWalk};
+ghost use Rattle.marking.specs.Chains.{tagPlace, entryOf, rowEntry, pairPlace, Linked, Chain, RowEntries, Alike, PairWalk};
 ghost use Rattle.marking.specs.Served.{orderlyCommits, orderlyRows, orderly, Marks};
-ghost use Rattle.marking.specs.Done.{Plain, Done, Kept};
+ghost use Rattle.marking.specs.SoFar.{OpenTest, SoFar, Flagged};
 use trimming::Remaining;
 
 // ---- chains: from each place, the rows whose key has that place, in their order
@@ -154,7 +154,7 @@ fn link_rows(
     requires { ⌜ Linked (tagPlace (now commits)) entries 0 (now heads) (now nexts) ⌝ }
     requires { ⌜ now firsts ≡ replicate 4096 used ⌝ }
     requires { ⌜ length (now follows) ≡ 1024 ⌝ }
-    ensures { λ r. ⌜ Entries used entries (now (rows .entry)) (now (commits .entry)) r ⌝ }
+    ensures { λ r. ⌜ RowEntries used entries (now (rows .entry)) (now (commits .entry)) r ⌝ }
     ensures { λ _. ⌜ Linked (rowEntry entries (now (commits .entry)) (now (rows .entry))) used 0 (now (firsts .exit)) (now (follows .exit)) ⌝ }
 {
     let mut entry = [0u16; 1024];
@@ -202,13 +202,13 @@ fn own_chained(
     false
 }
 
-// Whether all rows that are not committed have cells below 1,024, and none that its tag has again. entry has the committed row of each, entries for none.
+// Whether all rows that are not committed have cells below 1,024, and none that its tag has again. entry has the committed row of each row,
+// entries for none.
 fn open_plain(rows: &[u8], used: usize, entries: usize, entry: &[u16; 1024]) -> bool
     requires { ⌜ 24 * used ≤ length (now rows) ⌝ }
     requires { ⌜ used ≤ 1024 ⌝ }
     requires { ⌜ Alike used (now rows) (now entry) ⌝ }
-    ensures { λ r. ⌜ (r ≡ true → (k : ℕ) → k < used → getD (now (entry .entry)) k 0 ≡ entries → Plain used (now (rows .entry)) k) ⌝ }
-    ensures { λ r. ⌜ (r ≡ false → orderlyRows (rowsIn 24 used (now (rows .entry))) ≡ false) ⌝ }
+    ensures { λ r. ⌜ OpenTest used entries (now (rows .entry)) (now (entry .entry)) r ⌝ }
 {
     let none = used as u16;
     let mut heads = [none; 4096];
@@ -247,8 +247,7 @@ fn open_plain_from(
     requires { ⌜ used ≤ 1024 ⌝ }
     requires { ⌜ Alike used (now rows) (now entry) ⌝ }
     requires { ⌜ Next (λ k. getD (now entry) k 0 ≡ entries) 0 used first ⌝ }
-    ensures { λ r. ⌜ (r ≡ true → (k : ℕ) → k < used → getD (now (entry .entry)) k 0 ≡ entries → Plain used (now (rows .entry)) k) ⌝ }
-    ensures { λ r. ⌜ (r ≡ false → orderlyRows (rowsIn 24 used (now (rows .entry))) ≡ false) ⌝ }
+    ensures { λ r. ⌜ OpenTest used entries (now (rows .entry)) (now (entry .entry)) r ⌝ }
 {
     if first < used {
         return open_plain(rows, used, entries, entry);
@@ -282,9 +281,9 @@ fn serve(
     requires { ⌜ j < entries ⌝ }
     requires { ⌜ Linked (rowEntry entries (now commits) (now rows)) used 0 (now firsts) (now follows) ⌝ }
     requires { ⌜ Marks low used entries (now rows) (now commits) (j + 1) (now marks) ⌝ }
-    requires { ⌜ Done low used entries (now rows) (now commits) (j + 1) (now seen) (now flags) (now uses) ⌝ }
+    requires { ⌜ SoFar low used entries (now rows) (now commits) (j + 1) (now seen) (now flags) (now uses) ⌝ }
     ensures { λ r. ⌜ (r ≡ true → Marks low used entries (now (rows .entry)) (now (commits .entry)) j (now (marks .exit))) ⌝ }
-    ensures { λ r. ⌜ (r ≡ true → Done low used entries (now (rows .entry)) (now (commits .entry)) j (now (seen .exit)) (now (flags .exit)) (now (uses .exit))) ⌝ }
+    ensures { λ r. ⌜ (r ≡ true → SoFar low used entries (now (rows .entry)) (now (commits .entry)) j (now (seen .exit)) (now (flags .exit)) (now (uses .exit))) ⌝ }
     ensures { λ r. ⌜ (r ≡ false → orderlyRows (rowsIn 24 used (now (rows .entry))) ≡ false) ⌝ }
 {
     let number = rows::commit_number_at(commits, j);
@@ -333,9 +332,9 @@ fn serve_all(
     requires { ⌜ orderlyCommits (rowsIn 8 entries (now commits)) ≡ true ⌝ }
     requires { ⌜ Linked (rowEntry entries (now commits) (now rows)) used 0 (now firsts) (now follows) ⌝ }
     requires { ⌜ Marks low used entries (now rows) (now commits) entries (now marks) ⌝ }
-    requires { ⌜ Done low used entries (now rows) (now commits) entries (now seen) (now flags) (now uses) ⌝ }
+    requires { ⌜ SoFar low used entries (now rows) (now commits) entries (now seen) (now flags) (now uses) ⌝ }
     ensures { λ r. ⌜ (r ≡ true → Marks low used entries (now (rows .entry)) (now (commits .entry)) 0 (now (marks .exit))) ⌝ }
-    ensures { λ r. ⌜ (r ≡ true → Done low used entries (now (rows .entry)) (now (commits .entry)) 0 (now (seen .exit)) (now (flags .exit)) (now (uses .exit))) ⌝ }
+    ensures { λ r. ⌜ (r ≡ true → SoFar low used entries (now (rows .entry)) (now (commits .entry)) 0 (now (seen .exit)) (now (flags .exit)) (now (uses .exit))) ⌝ }
     ensures { λ r. ⌜ (r ≡ false → orderlyRows (rowsIn 24 used (now (rows .entry))) ≡ false) ⌝ }
 {
     let mut j = entries;
@@ -383,7 +382,7 @@ fn from_newest(
     requires { ⌜ now uses ≡ replicate 1024 0 ⌝ }
     ensures { λ r. ⌜ r ≡ orderly (rowsIn 24 used (now (rows .entry))) (rowsIn 8 entries (now (commits .entry))) ⌝ }
     ensures { λ r. ⌜ (r ≡ true → Marks low used entries (now (rows .entry)) (now (commits .entry)) 0 (now (marks .exit))) ⌝ }
-    ensures { λ r. ⌜ (r ≡ true → Kept low used entries (now (rows .entry)) (now (commits .entry)) (now (flags .exit)) (now (uses .exit))) ⌝ }
+    ensures { λ r. ⌜ (r ≡ true → Flagged low used entries (now (rows .entry)) (now (commits .entry)) (now (flags .exit)) (now (uses .exit))) ⌝ }
 {
     let none = entries as u16;
     let mut heads = [none; 4096];
@@ -424,6 +423,46 @@ fn from_newest(
     )
 }
 
+// The trim. On orderly bytes marks, which are all 0 before, show in the end which cells were marked after each committed row; all other bytes
+// are worked the old way.
+fn trim_marking(
+    rows: &mut [u8],
+    used: usize,
+    commits: &mut [u8],
+    entries: usize,
+    low: u32,
+    marks: &mut [u16; 1024],
+) -> Remaining
+    requires { ⌜ 24 * used ≤ length (now rows) ⌝ }
+    requires { ⌜ used ≤ 1024 ⌝ }
+    requires { ⌜ 8 * entries ≤ length (now commits) ⌝ }
+    requires { ⌜ entries ≤ 1024 ⌝ }
+    requires { ⌜ now marks ≡ replicate 1024 0 ⌝ }
+    ensures { λ r. ⌜ Trimmed low used entries (now (rows .entry)) (now (commits .entry)) (now (rows .exit)) (now (commits .exit)) (r .rows) (r .commits) ⌝ }
+    ensures { λ _. ⌜ (orderly (rowsIn 24 used (now (rows .entry))) (rowsIn 8 entries (now (commits .entry))) ≡ true → Marks low used entries (now (rows .entry)) (now (commits .entry)) 0 (now (marks .exit))) ⌝ }
+{
+    let mut flags = [1u8; 1024];
+    let mut uses = [0u8; 1024];
+    if from_newest(
+        rows,
+        used,
+        commits,
+        entries,
+        low,
+        marks,
+        &mut flags,
+        &mut uses,
+    ) {
+        let left = removal::close_up(rows, 3, used, &flags);
+        let kept = removal::close_up(commits, 1, entries, &uses);
+        return Remaining {
+            rows: left,
+            commits: kept,
+        };
+    }
+    trimming::trim(rows, used, commits, entries, low)
+}
+
 // Drops the data rows that newer ones up to low overtake, and then the committed rows with no data row left. Where no row is committed none goes.
 pub fn trim(rows: &mut [u8], used: usize, commits: &mut [u8], entries: usize, low: u32) -> Remaining
     requires { ⌜ 24 * used ≤ length (now rows) ⌝ }
@@ -436,24 +475,5 @@ pub fn trim(rows: &mut [u8], used: usize, commits: &mut [u8], entries: usize, lo
         return trimming::trim(rows, used, commits, entries, low);
     }
     let mut marks = [0u16; 1024];
-    let mut flags = [1u8; 1024];
-    let mut uses = [0u8; 1024];
-    if from_newest(
-        rows,
-        used,
-        commits,
-        entries,
-        low,
-        &mut marks,
-        &mut flags,
-        &mut uses,
-    ) {
-        let left = removal::close_up(rows, 3, used, &flags);
-        let kept = removal::close_up(commits, 1, entries, &uses);
-        return Remaining {
-            rows: left,
-            commits: kept,
-        };
-    }
-    trimming::trim(rows, used, commits, entries, low)
+    trim_marking(rows, used, commits, entries, low, &mut marks)
 }

@@ -6,7 +6,8 @@ use native.Mathlib.Omega.{arith}
 use Rattle.trimming.specs.Places.{place}
 use Rattle.marking.specs.Chains.{tagPlace, Chain}
 use Rattle.marking.proofs.Chains.{chain-start}
-use Rattle.marking.proofs.Entries.{next-one, entry-next, from-head}
+use Rattle.marking.proofs.Nexts.{next-one}
+use Rattle.marking.proofs.Entries.{entry-next, from-head}
 use Rattle.marking.proofs.entry_of.Statement.{statement}
 use Rattle.marking.proofs.entry_of.Tie as tie
 

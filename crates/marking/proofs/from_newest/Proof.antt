@@ -9,7 +9,7 @@ use Rattle.rows.specs.Rows.{rowsIn}
 use Rattle.search.specs.Passes.{Next}
 use Rattle.marking.specs.Chains.{rowEntry}
 use Rattle.marking.specs.Served.{orderlyCommits, orderlyRows, Marks}
-use Rattle.marking.specs.Done.{Done}
+use Rattle.marking.specs.SoFar.{SoFar}
 use Rattle.marking.proofs.Order.{differ, disorder-commits, disorder-rows, decided}
 use Rattle.marking.proofs.Entries.{entries-alike, entries-open}
 use Rattle.marking.proofs.Marking.{marks-start, done-start, done-end, all-plain}
@@ -58,7 +58,7 @@ open-plain-from-requires c κs =
 returns-2 : tie.Need-returns-2
 returns-2 c =
     let a = c .before .before .before .before .before .before .before .before .before .before .before .before .before .before .args in
-    let disorderly : orderlyRows (rowsIn 24 (a .used) (a .rows .now)) ≡ false = c .before .open-plain-from .ensures .1 (not-true (c .before .open-plain-from .result) (c .if2 .taken)) in
+    let disorderly : orderlyRows (rowsIn 24 (a .used) (a .rows .now)) ≡ false = c .before .open-plain-from .ensures .not-plain (not-true (c .before .open-plain-from .result) (c .if2 .taken)) in
     (sym (disorder-rows (rowsIn 24 (a .used) (a .rows .now)) (rowsIn 8 (a .entries) (a .commits .now)) disorderly), (λ e. absurd (differ e refl), λ e. absurd (differ e refl)))
 
 -- the committed rows are orderly
@@ -77,7 +77,7 @@ serve-all-requires c κs =
     let pre = start .pre in
     let marked : Marks (a .low) (a .used) (a .entries) (a .rows .now) (a .commits .now) (a .entries) (a .marks .now) =
     rw (pre .1 .1 .1 .1 .0) (marks-start (a .low) (a .used) (a .entries) (a .rows .now) (a .commits .now)) in
-    let done : Done (a .low) (a .used) (a .entries) (a .rows .now) (a .commits .now) (a .entries) (replicate 1024 0) (a .flags .now) (a .uses .now) =
+    let done : SoFar (a .low) (a .used) (a .entries) (a .rows .now) (a .commits .now) (a .entries) (replicate 1024 0) (a .flags .now) (a .uses .now) =
     rw (pre .1 .1 .1 .1 .1 .0, pre .1 .1 .1 .1 .1 .1) (done-start (a .low) (a .used) (a .entries) (a .rows .now) (a .commits .now) (pre .1 .0) (pre .1 .1 .1 .0)) in
     (pre .0, (pre .1 .0, (pre .1 .1 .0, (pre .1 .1 .1 .0, (ordered at, (at .link-rows .ensures .1, (marked, done)))))))
 
@@ -90,7 +90,7 @@ returns-3 c =
     let ds = rowsIn 24 (a .used) (a .rows .now) in
     let cs = rowsIn 8 (a .entries) (a .commits .now) in
     let tested = c .before .before .before .before .before .before .before .before in
-    let plain = tested .open-plain-from .ensures .0 (not-false (tested .open-plain-from .result) (c .before .before .before .before .before .before .before .if2 .left)) in
+    let plain = tested .open-plain-from .ensures .plain (not-false (tested .open-plain-from .result) (c .before .before .before .before .before .before .before .if2 .left)) in
     let decision = decided (served .result) ds cs (ordered at)
     (λ e. all-plain (a .low) (a .used) (a .entries) (a .rows .now) (a .commits .now) _ _ _ (at .link-rows .result) (served .ensures .1 .0 e) (at .link-rows .ensures .0) plain)
     (served .ensures .1 .1) in

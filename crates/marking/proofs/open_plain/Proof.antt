@@ -39,12 +39,13 @@ cast-at c =
 returns : tie.Need-returns Inv-loop μ-loop
 returns c =
     let a = c .before .before .before .before .before .before .before .args in
-    let loop = c .before .before .before .before .before .loop in (
-      λ e. absurd (differ e refl),
-      λ e.
+    let loop = c .before .before .before .before .before .loop in
+    record {
+      plain = λ e. absurd (differ e refl);
+      not-plain = λ e.
           tested-large (a .used) (a .entries) (a .rows .now) (a .entry .now) (loop .heads) (loop .nexts) (loop .i - 1)
-          (tested (c .before .before .before .before)) (omega (arith, c .before .cell-at .ensures, c .if2 .taken)),
-    )
+          (tested (c .before .before .before .before)) (omega (arith, c .before .cell-at .ensures, c .if2 .taken));
+    }
 
 -- row k, which is not committed
 row : (c : tie.After-pair-place Inv-loop μ-loop)
@@ -93,13 +94,14 @@ returns-2 c =
     let a = c .before .before .before .before .before .before .before .before .before .before .before .before .before .args in
     let loop = c .before .before .before .before .before .before .before .before .before .before .before .loop in
     let pair = c .before .before .before in
-    let t = tested (c .before .before .before .before .before .before .before .before .before .before) in (
-      λ e. absurd (differ e refl),
-      λ e.
+    let t = tested (c .before .before .before .before .before .before .before .before .before .before) in
+    record {
+      plain = λ e. absurd (differ e refl);
+      not-plain = λ e.
           tested-twice (a .used) (a .entries) (a .rows .now) (a .entry .now) (loop .heads) (loop .nexts) (loop .i - 1) t
           (pair .before .before .tag-at .result) (pair .before .before .before .before .cell-at .result) (pair .pair-place .result) (row pair)
-          (c .before .own-chained .result) (c .before .own-chained .ensures) (c .if3 .taken),
-    )
+          (c .before .own-chained .result) (c .before .own-chained .ensures) (c .if3 .taken);
+    }
 
 link-requires : tie.Need-link-requires Inv-loop μ-loop
 link-requires c κs =
@@ -132,7 +134,7 @@ loop-again-2 c =
     tested-past (a .used) (a .entries) (a .rows .now) (a .entry .now) (loop .heads) (loop .nexts) (loop .i - 1) (tested (c .before .before)) (c .if1 .left)
 
 returns-3 : tie.Need-returns-3 Inv-loop μ-loop
-returns-3 c = (λ e k. c .before .loop .inv .plain k (omega (arith, c .loop-test .left)), λ e. absurd (differ refl e))
+returns-3 c = record { plain = λ e k. c .before .loop .inv .plain k (omega (arith, c .loop-test .left)); not-plain = λ e. absurd (differ refl e) }
 
 pub open-plain-spec : {M : Type 1} → statement M
 open-plain-spec =

@@ -4,14 +4,14 @@ use mathlib.Core.Path.{_≡_, refl}
 use borrow.Author.Needs.{needs}
 use native.Mathlib.Omega.{arith}
 use Rattle.marking.specs.Served.{Marks}
-use Rattle.marking.specs.Done.{Done}
+use Rattle.marking.specs.SoFar.{SoFar}
 use Rattle.marking.proofs.Order.{differ}
 use Rattle.marking.proofs.serve_all.Statement.{statement}
 use Rattle.marking.proofs.serve_all.Tie as tie
 
 abbrev Inv-loop : tie.InvT-loop
 Inv-loop rows used commits entries low firsts follows seen₀ marks₀ flags₀ uses₀ j₀ seen marks flags uses j =
-    (j ≤ entries) × Marks low used entries rows commits j marks × Done low used entries rows commits j seen flags uses
+    (j ≤ entries) × Marks low used entries rows commits j marks × SoFar low used entries rows commits j seen flags uses
 
 abbrev μ-loop : tie.MeasureT-loop
 μ-loop rows used commits entries low firsts follows seen₀ marks₀ flags₀ uses₀ j₀ seen marks flags uses j = j

@@ -2,7 +2,7 @@
 -- Assumes nothing.
 use Prim.Native.Nat.{ℕ, _+_, _≤_, _<_}
 use mathlib.Core.Path.{_≡_}
-use mathlib.Core.Bool.{false}
+use mathlib.Core.Bool.{Bool, true, false}
 use mathlib.Core.List.{List}
 use lib.ListN.{length, getD}
 use Rattle.sets.specs.Choice.{if_then_else_}
@@ -11,12 +11,17 @@ use Rattle.search.specs.Share.{any, wrote}
 use Rattle.removal.specs.Kept.{Flags}
 use Rattle.trimming.specs.Trim.{stays, inUse, trimmedRows}
 use Rattle.marking.specs.Chains.{rowEntry}
-use Rattle.marking.specs.Served.{commits}
+use Rattle.marking.specs.Served.{commits, orderlyRows}
 
 -- a data row of a cell below 1,024 that no later row of its tag has too
 pub record Plain (n : ℕ) (s : List ℕ) (k : ℕ) : Type 0 where
   pub small : cellOf (rowAt 24 k s) < 1024
   pub alone : wrote (rowsFrom 24 n (k + 1) s) (tagOf (rowAt 24 k s)) (cellOf (rowAt 24 k s)) ≡ false
+
+-- What the test of the rows that are not committed says; entry has m for them. They are plain, or not all rows of s are orderly.
+pub record OpenTest (n m : ℕ) (s entry : List ℕ) (r : Bool) : Type 0 where
+  pub plain : r ≡ true → (k : ℕ) → k < n → getD entry k 0 ≡ m → Plain n s k
+  pub not-plain : r ≡ false → orderlyRows (rowsIn 24 n s) ≡ false
 
 -- the data rows' flags after committed row j: those of rows committed by row j or a later one are right, all others are 1
 pub record Judged (low n m : ℕ) (s c : List ℕ) (j : ℕ) (flags : List ℕ) : Type 0 where
@@ -30,7 +35,7 @@ pub record Used (low n m : ℕ) (s c : List ℕ) (j : ℕ) (uses : List ℕ) : T
   pub each : (k : ℕ) → j ≤ k → k < m → getD uses k 0 ≡ (if inUse (trimmedRows low (rowsIn 24 n s) (rowsIn 8 m c)) (rowAt 8 k c) then 1 else 0)
 
 -- All of this after committed row j. `seen` has, of each cell, one more than the number of the last row that wrote it and is done, 0 for none.
-pub record Done (low n m : ℕ) (s c : List ℕ) (j : ℕ) (seen flags uses : List ℕ) : Type 0 where
+pub record SoFar (low n m : ℕ) (s c : List ℕ) (j : ℕ) (seen flags uses : List ℕ) : Type 0 where
   pub room : length seen ≡ 1024
   pub fresh : (x k : ℕ) → x < 1024 → k < j → getD seen x 0 ≡ k + 1 → ⊥
   pub plain : (k : ℕ) → k < n → j ≤ rowEntry m c s k → rowEntry m c s k < m → Plain n s k
@@ -38,6 +43,6 @@ pub record Done (low n m : ℕ) (s c : List ℕ) (j : ℕ) (seen flags uses : Li
   pub used : Used low n m s c j uses
 
 -- the rows that stay, by their flags
-pub record Kept (low n m : ℕ) (s c flags uses : List ℕ) : Type 0 where
+pub record Flagged (low n m : ℕ) (s c flags uses : List ℕ) : Type 0 where
   pub rows : Flags (stays low (rowsIn 24 n s) (rowsIn 8 m c)) 24 n s flags
   pub entries : Flags (inUse (trimmedRows low (rowsIn 24 n s) (rowsIn 8 m c))) 8 m c uses
