@@ -1,5 +1,5 @@
 -- After committed row j the marks, the flags and what else is known are right.
-use Prim.Native.Nat.{_+_, _-_, _≤_, _<_}
+use Prim.Native.Nat.{_+_, _-_, _≤_}
 use mathlib.Core.Path.{_≡_, refl}
 use borrow.Author.Needs.{needs}
 use native.Mathlib.Omega.{arith}
@@ -18,11 +18,15 @@ abbrev μ-loop : tie.MeasureT-loop
 
 serve-requires : tie.Need-serve-requires Inv-loop μ-loop
 serve-requires c κs =
-    let pre = c .before .before .before .before .before .before .before .before .pre in
+    let start = c .before .before .before .before .before .before .before .before in
+    let a = start .args in
+    let pre = start .pre in
     let loop = c .before .before .before .before .before .loop in
-    let z : loop .j - 1 + 1 ≡ loop .j = omega (arith, c .before .before .before .before .loop-test .taken) in
-    let h : loop .j - 1 < c .before .before .before .before .before .before .before .before .args .entries = omega (arith, loop .inv .0, c .before .before .before .before .loop-test .taken) in
-    (pre .0, (pre .1 .0, (pre .1 .1 .0, (pre .1 .1 .1 .0, (pre .1 .1 .1 .1 .0, (h, (pre .1 .1 .1 .1 .1 .0, (rw z (loop .inv .1), rw z (loop .inv .2)))))))))
+    let positive = c .before .before .before .before .loop-test .taken in
+    let z : loop .j - 1 + 1 ≡ loop .j = omega (arith, positive) in
+    let marked : Marks (a .low) (a .used) (a .entries) (a .rows .now) (a .commits .now) (loop .j - 1 + 1) (loop .marks) = rw z (loop .inv .1) in
+    let known : SoFar (a .low) (a .used) (a .entries) (a .rows .now) (a .commits .now) (loop .j - 1 + 1) (loop .seen) (loop .flags) (loop .uses) = rw z (loop .inv .2) in
+    (pre .0, (pre .1 .0, (pre .1 .1 .0, (pre .1 .1 .1 .0, (pre .1 .1 .1 .1 .0, (omega (arith, loop .inv .0, positive), (pre .1 .1 .1 .1 .1 .0, (marked, known))))))))
 
 loop-again : tie.Need-loop-again Inv-loop μ-loop
 loop-again c =
