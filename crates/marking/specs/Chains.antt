@@ -18,6 +18,10 @@ pub record Linked (key : ℕ → ℕ) (n i : ℕ) (heads nexts : List ℕ) : Typ
   pub head : (x : ℕ) → x < 4096 → Next (λ k. key k ≡ x) i n (getD heads x 0)
   pub next : (k : ℕ) → i ≤ k → k < n → key k < 4096 → Next (λ j. key j ≡ key k) (k + 1) n (getD nexts k 0)
 
+-- Row k, whose place is x, is put in front of the rows behind it, whatever the places of the others are.
+pub record Links (x k : ℕ) (heads nexts heads′ nexts′ : List ℕ) : Type 0 where
+  pub one : (key : ℕ → ℕ) (n : ℕ) → k < n → key k ≡ x → Linked key n (k + 1) heads nexts → Linked key n k heads′ nexts′
+
 -- A walk over the rows whose place is x has come to row i: the row itself is one, where there is one, and from each row on nexts leads to the next.
 pub record Chain (key : ℕ → ℕ) (n : ℕ) (nexts : List ℕ) (x i : ℕ) : Type 0 where
   pub small : x < 4096

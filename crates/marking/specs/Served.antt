@@ -53,3 +53,7 @@ pub record Marks (low n m : ℕ) (s c : List ℕ) (j : ℕ) (marks : List ℕ) :
   pub size : length marks ≡ 1024
   pub so-far : (x : ℕ) → x < 1024 → ltb 0 (getD marks x 0) ≡ served low (rowsIn 24 n s) (rowsFrom 8 m j c) x
   pub after-each : (k x : ℕ) → j ≤ k → x < 1024 → ltb k (getD marks x 0) ≡ served low (rowsIn 24 n s) (rowsFrom 8 m k c) x
+
+-- So it is on all orderly bytes: the marks that a trim leaves in the end show the marked cells after each committed row.
+pub record Worked (low n m : ℕ) (s c marks : List ℕ) : Type 0 where
+  pub from-newest : orderly (rowsIn 24 n s) (rowsIn 8 m c) ≡ true → Marks low n m s c 0 marks

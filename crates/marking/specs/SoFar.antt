@@ -26,7 +26,8 @@ pub record OpenTest (n m : ℕ) (s entry : List ℕ) (r : Bool) : Type 0 where
 -- the data rows' flags after committed row j: those of rows committed by row j or a later one are right, all others are 1
 pub record Judged (low n m : ℕ) (s c : List ℕ) (j : ℕ) (flags : List ℕ) : Type 0 where
   pub size : length flags ≡ 1024
-  pub each : (i : ℕ) → i < n → getD flags i 0 ≡ (if any (commits (tagOf (rowAt 24 i s))) (rowsFrom 8 m j c) then (if stays low (rowsIn 24 n s) (rowsIn 8 m c) (rowAt 24 i s) then 1 else 0) else 1)
+  pub each : (i : ℕ) → i < n
+      → getD flags i 0 ≡ (if any (commits (tagOf (rowAt 24 i s))) (rowsFrom 8 m j c) then (if stays low (rowsIn 24 n s) (rowsIn 8 m c) (rowAt 24 i s) then 1 else 0) else 1)
 
 -- the committed rows' flags after committed row j: from row j on they are right, before it they are 0
 pub record Used (low n m : ℕ) (s c : List ℕ) (j : ℕ) (uses : List ℕ) : Type 0 where

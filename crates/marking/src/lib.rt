@@ -9,8 +9,8 @@ ghost use Rattle.search.specs.Share.{wrote};
 ghost use Rattle.search.specs.Passes.{Next};
 ghost use Rattle.trimming.specs.Trimmed.{Trimmed};
 ghost use Rattle.trimming.specs.Places.{place};
-ghost use Rattle.marking.specs.Chains.{tagPlace, entryOf, rowEntry, pairPlace, Linked, Chain, RowEntries, Alike, PairWalk};
-ghost use Rattle.marking.specs.Served.{orderlyCommits, orderlyRows, orderly, Marks};
+ghost use Rattle.marking.specs.Chains.{tagPlace, entryOf, rowEntry, pairPlace, Linked, Links, Chain, RowEntries, Alike, PairWalk};
+ghost use Rattle.marking.specs.Served.{orderlyCommits, orderlyRows, orderly, Marks, Worked};
 ghost use Rattle.marking.specs.SoFar.{OpenTest, SoFar, Flagged};
 use trimming::Remaining;
 
@@ -30,7 +30,7 @@ fn link(heads: &mut [u16; 4096], nexts: &mut [u16; 1024], x: usize, k: usize)
     requires { ⌜ k < 1024 ⌝ }
     requires { ⌜ length (now heads) ≡ 4096 ⌝ }
     requires { ⌜ length (now nexts) ≡ 1024 ⌝ }
-    ensures { λ _. ⌜ ((key : ℕ → ℕ) (n : ℕ) → k < n → key k ≡ x → Linked key n (k + 1) (now (heads .entry)) (now (nexts .entry)) → Linked key n k (now (heads .exit)) (now (nexts .exit))) ⌝ }
+    ensures { λ _. ⌜ Links x k (now (heads .entry)) (now (nexts .entry)) (now (heads .exit)) (now (nexts .exit)) ⌝ }
 {
     nexts[k] = heads[x];
     heads[x] = k as u16;
@@ -439,7 +439,7 @@ fn trim_marking(
     requires { ⌜ entries ≤ 1024 ⌝ }
     requires { ⌜ now marks ≡ replicate 1024 0 ⌝ }
     ensures { λ r. ⌜ Trimmed low used entries (now (rows .entry)) (now (commits .entry)) (now (rows .exit)) (now (commits .exit)) (r .rows) (r .commits) ⌝ }
-    ensures { λ _. ⌜ (orderly (rowsIn 24 used (now (rows .entry))) (rowsIn 8 entries (now (commits .entry))) ≡ true → Marks low used entries (now (rows .entry)) (now (commits .entry)) 0 (now (marks .exit))) ⌝ }
+    ensures { λ _. ⌜ Worked low used entries (now (rows .entry)) (now (commits .entry)) (now (marks .exit)) ⌝ }
 {
     let mut flags = [1u8; 1024];
     let mut uses = [0u8; 1024];

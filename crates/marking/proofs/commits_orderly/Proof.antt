@@ -130,7 +130,7 @@ loop-again c =
     (loop .inv .3 (number .result) (omega (arith, number .ok))
     ∙ lt-ltb (number .result) (loop .above) (omega (arith, c .before .before .before .before .before .before .before .before .before .if1 .left))) in (
       omega (arith, loop .inv .0),
-      c .link .ensures (tagPlace (a .commits .now)) (a .entries) h (sym (at .ensures .0 ∙ ap place (tag .ensures))) (rw z (loop .inv .1)),
+      c .link .ensures .one (tagPlace (a .commits .now)) (a .entries) h (sym (at .ensures .0 ∙ ap place (tag .ensures))) (rw z (loop .inv .1)),
       order-more (a .entries) (a .commits .now) (loop .i - 1) h low
           (again searched ∙ le-ltb (searched .chained-entry .result) (a .entries) (c .before .before .before .if2 .left)) (rw z (loop .inv .2)),
       λ v l. under-step (a .entries) (a .commits .now) v (loop .i - 1) h ∙ rw (number .ensures),

@@ -5,10 +5,10 @@ use Rattle.marking.proofs.link.Statement.{statement}
 use Rattle.marking.proofs.link.Tie as tie
 
 returns : tie.Need-returns
-returns c = λ key n h e l.
+returns c =
     let start = c .before in
     let a = start .args in
-    linked-more key n (a .heads .now) (a .nexts .now) (a .x) (a .k) (start .pre .0) (start .pre .1 .0) h e l
+    record { one = λ key n h e l. linked-more key n (a .heads .now) (a .nexts .now) (a .x) (a .k) (start .pre .0) (start .pre .1 .0) h e l }
 
 pub link-spec : {M : Type 1} → statement M
 link-spec =

@@ -66,7 +66,7 @@ loop-again c =
       simp length-set (loop .inv .1),
       stored-less (rowEntry (a .entries) (a .commits .now) (a .rows .now)) (loop .entry) (a .used) (loop .i - 1) (again .result)
           (omega (arith, h, loop .inv .1)) (λ k g. loop .inv .2 k (omega arith)) right,
-      c .link .ensures (rowEntry (a .entries) (a .commits .now) (a .rows .now)) (a .used) h (sym right) (rw z (loop .inv .3)),
+      c .link .ensures .one (rowEntry (a .entries) (a .commits .now) (a .rows .now)) (a .used) h (sym right) (rw z (loop .inv .3)),
       again .ensures,
     )
 

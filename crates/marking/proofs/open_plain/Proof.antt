@@ -122,7 +122,7 @@ loop-again c =
     let x = pair .pair-place .result in
     let t = tested inside in
     tested-more (a .used) (a .entries) (a .rows .now) (a .entry .now) (loop .heads) (loop .nexts) (loop .i - 1) t (c .link .last .0) (c .link .last .1 .0)
-    (c .link .ensures (openPlace (a .entries) (a .entry .now) (a .rows .now)) (a .used) (omega (arith, t .end))
+    (c .link .ensures .one (openPlace (a .entries) (a .entry .now) (a .rows .now)) (a .used) (omega (arith, t .end))
     (open-at (a .used) (a .entries) (a .rows .now) (a .entry .now) (loop .heads) (loop .nexts) (loop .i - 1) t tag cell x (row pair)) (t .linked))
     (open-alone (a .used) (a .entries) (a .rows .now) (a .entry .now) (loop .heads) (loop .nexts) (loop .i - 1) t tag cell x (row pair)
     (own .result) (own .ensures) (pair .before .before .before .if2 .left) (c .before .before .before .if3 .left))

@@ -20,11 +20,14 @@ returns c =
     let second = c .before .before .close-up2 in (
       trimmed-kept (a .low) (a .used) (a .entries) (a .rows .now) (a .commits .now) _ _ (first .last .0) (second .last .0) (first .result) (second .result)
           (newest .ensures .1 .1 orderly) (first .ensures) (second .ensures),
-      λ e. newest .ensures .1 .0 orderly,
+      record { from-newest = λ e. newest .ensures .1 .0 orderly },
     )
 
 returns-2 : tie.Need-returns-2
-returns-2 c = (c .before .before .before .before .trim .ensures, λ e. absurd (differ e (sym (c .before .before .before .before .before .before .before .before .from-newest .ensures .0) ∙ c .before .before .before .before .before .before .before .if1 .left)))
+returns-2 c =
+    let newest = c .before .before .before .before .before .before .before .before .from-newest in
+    let disorderly = sym (newest .ensures .0) ∙ c .before .before .before .before .before .before .before .if1 .left in
+    (c .before .before .before .before .trim .ensures, record { from-newest = λ e. absurd (differ e disorderly) })
 
 pub trim-marking-spec : {M : Type 1} → statement M
 trim-marking-spec =
