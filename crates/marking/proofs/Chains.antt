@@ -26,7 +26,13 @@ module _ (key : ℕ → ℕ) (n : ℕ) where
   pub linked-more : (heads nexts : List ℕ) (x k : ℕ) → x < 4096 → k < 1024 → k < n → key k ≡ x → Linked key n (k + 1) heads nexts
       → Linked key n k (set heads x k) (set nexts k (getD heads x 0))
   linked-more heads nexts x k a b h e l =
-      record { size = simp length-set (l .size); room = simp length-set (l .room); head = λ y g. head y g (ℕ-discrete y x); next = λ j g f r. next j g f r (ℕ-discrete j k) }
+      record {
+        size = simp length-set (l .size);
+        room = simp length-set (l .room);
+        head = λ y g. head y g
+            (ℕ-discrete y x);
+        next = λ j g f r. next j g f r (ℕ-discrete j k);
+      }
     where
       head : (y : ℕ) → y < 4096 → Dec (y ≡ x) → Next (λ j. key j ≡ y) k n (getD (set heads x k) y 0)
       head y g (yes q) = rw (q, getD-set-same heads x k 0 (omega (arith, l .size))) (next-here k h e)
@@ -39,7 +45,13 @@ module _ (key : ℕ → ℕ) (n : ℕ) where
   -- a row that has no place is not linked
   pub linked-less : (heads nexts : List ℕ) (k : ℕ) → 4096 ≤ key k → Linked key n (k + 1) heads nexts → Linked key n k heads nexts
   linked-less heads nexts k b l =
-      record { size = l .size; room = l .room; head = λ x g. next-past k (getD heads x 0) (λ e. omega (arith, e)) (l .head x g); next = λ j g f r. next j g f r (ℕ-discrete j k) }
+      record {
+        size = l .size;
+        room = l .room;
+        head = λ x g. next-past k (getD heads x 0) (λ e. omega (arith, e))
+            (l .head x g);
+        next = λ j g f r. next j g f r (ℕ-discrete j k);
+      }
     where
       next : (j : ℕ) → k ≤ j → j < n → key j < 4096 → Dec (j ≡ k) → Next (λ i. key i ≡ key j) (j + 1) n (getD nexts j 0)
       next j g f r (yes q) = absurd (omega (arith, rw q at r))
@@ -62,7 +74,13 @@ module _ (key : ℕ → ℕ) (n : ℕ) where
 
       pub chain-more : Chain key n nexts x (getD nexts i 0)
       chain-more =
-          record { small = m .small; end = chain-next .end; here = λ l. chain-next .hit l ∙ m .here h; next = λ k a. m .next k (omega (arith, chain-next .start)) }
+          record {
+            small = m .small;
+            end = chain-next .end;
+            here = λ l. chain-next .hit l ∙ m .here h;
+            next = λ k a. m .next k
+                (omega (arith, chain-next .start));
+          }
 
       pub chain-rises : (i < getD nexts i 0) × (getD nexts i 0 ≤ n)
       chain-rises = (omega (arith, chain-next .start), chain-next .end)
@@ -70,7 +88,8 @@ module _ (key : ℕ → ℕ) (n : ℕ) where
       pub chain-skip : {A : Type 0} (F : ℕ → A) → ((k : ℕ) → k < n → (key k ≡ x → ⊥) → F k ≡ F (k + 1)) → F (i + 1) ≡ F (getD nexts i 0)
       chain-skip F same = skip F chain-next (λ k l ne. same k l (λ f. ne (f ∙ sym (m .here h))))
 
-  pub head-skip : {A : Type 0} (F : ℕ → A) (heads nexts : List ℕ) (x i : ℕ) → x < 4096 → Linked key n i heads nexts → ((k : ℕ) → k < n → (key k ≡ x → ⊥) → F k ≡ F (k + 1)) → F i ≡ F (getD heads x 0)
+  pub head-skip : {A : Type 0} (F : ℕ → A) (heads nexts : List ℕ) (x i : ℕ) → x < 4096 → Linked key n i heads nexts →
+      ((k : ℕ) → k < n → (key k ≡ x → ⊥) → F k ≡ F (k + 1)) → F i ≡ F (getD heads x 0)
   head-skip F heads nexts x i h l same = skip F (l .head x h) same
 
 module _ (key : ℕ → ℕ) (n : ℕ) (P : ℕ → Type 0) (nexts : List ℕ) (x : ℕ) (more : (k : ℕ) → k < n → (key k ≡ x → ⊥) → P k → P (k + 1)) where

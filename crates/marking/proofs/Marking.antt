@@ -120,10 +120,15 @@ module _ (low n m : ℕ) (s c : List ℕ) where
       none k h f = differ (any-at (commits (tagOf r)) 8 m c k h (eq-eqb (commitTag (rowAt 8 k c)) (tagOf r) f)) e
 
   pub judged-end : (flags : List ℕ) → Judged low n m s c 0 flags → Flags (stays low (rowsIn 24 n s) (rowsIn 8 m c)) 24 n s flags
-  judged-end flags g = record { size = g .size; each = λ k h. rw (← rows-start 8 m c) at (g .each k h) ∙ go k (any (commits (tagOf (rowAt 24 k s))) (rowsIn 8 m c)) refl }
+  judged-end flags g = record {
+    size = g .size;
+    each = λ k h. rw (← rows-start 8 m c) at (g .each k h) ∙ go k
+        (any (commits (tagOf (rowAt 24 k s))) (rowsIn 8 m c)) refl;
+  }
     where
       go : (k : ℕ) (b : Bool) → any (commits (tagOf (rowAt 24 k s))) (rowsIn 8 m c) ≡ b
-          → _≡_ {A = ℕ} (if b then (if stays low (rowsIn 24 n s) (rowsIn 8 m c) (rowAt 24 k s) then 1 else 0) else 1) (if stays low (rowsIn 24 n s) (rowsIn 8 m c) (rowAt 24 k s) then 1 else 0)
+          → _≡_ {A = ℕ} (if b then (if stays low (rowsIn 24 n s) (rowsIn 8 m c) (rowAt 24 k s) then 1 else 0) else 1)
+          (if stays low (rowsIn 24 n s) (rowsIn 8 m c) (rowAt 24 k s) then 1 else 0)
       go k true e = refl
       go k false e = rw (uncommitted (rowAt 24 k s) e)
 
@@ -150,7 +155,8 @@ module _ (low n m : ℕ) (s c : List ℕ) where
       record { rows = judged-end flags (d .judged); entries = record { size = d .used .size; each = λ k h. d .used .each k (omega arith) h } }
 
   -- every row is plain: those of committed transactions, and the others
-  pub all-plain : (seen flags uses entry : List ℕ) → SoFar low n m s c 0 seen flags uses → RowEntries n m s c entry → ((k : ℕ) → k < n → getD entry k 0 ≡ m → Plain n s k)
+  pub all-plain : (seen flags uses entry : List ℕ) → SoFar low n m s c 0 seen flags uses → RowEntries n m s c entry →
+      ((k : ℕ) → k < n → getD entry k 0 ≡ m → Plain n s k)
       → orderlyRows (rowsIn 24 n s) ≡ true
   all-plain seen flags uses entry d t rest =
       rw (rows-start 24 n s)
@@ -191,7 +197,8 @@ module _ (low n m : ℕ) (s c : List ℕ) where
 
           after : (k x : ℕ) → j ≤ k → x < 1024 → Dec (j < k) → ltb k (getD marks x 0) ≡ Served k x
           after k x a l (yes d) =
-              rw (new x l) (due-above (getD marks₀ x 0) j (unmarked x l) (serves low (rowsIn 24 n s) x (rowAt 8 j c)) k (omega arith) ∙ g .after-each k x (omega arith) l)
+              rw (new x l) (due-above (getD marks₀ x 0) j (unmarked x l) (serves low (rowsIn 24 n s) x (rowAt 8 j c)) k (omega arith)
+              ∙ g .after-each k x (omega arith) l)
           after k x a l (no d) =
               let z : k ≡ j = omega (arith, a, d) in
               rw z (at-most x l j (omega arith))
@@ -213,7 +220,8 @@ module _ (low n m : ℕ) (s c : List ℕ) where
             unjudged i l q = f .each i l ∙ rw (q, alone m c ordered j h)
 
             each : (i : ℕ) → i < n → Dec (tagOf (rowAt 24 i s) ≡ own)
-                → judge own (j + 1) s marks₀ flags₀ i ≡ (if any (commits (tagOf (rowAt 24 i s))) (rowsFrom 8 m j c) then (if stays low (rowsIn 24 n s) (rowsIn 8 m c) (rowAt 24 i s) then 1 else 0) else 1)
+                → judge own (j + 1) s marks₀ flags₀ i ≡ (if any (commits (tagOf (rowAt 24 i s))) (rowsFrom 8 m j c) then
+                (if stays low (rowsIn 24 n s) (rowsIn 8 m c) (rowAt 24 i s) then 1 else 0) else 1)
             each i l (yes q) =
                 rw (tag-yes own (rowAt 24 i s) q, tag-here (tagOf (rowAt 24 i s)) m j c h (sym q), unjudged i l q, stays-unmarked i l q)
                 (flip (ltb (j + 1) (getD marks₀ (cellOf (rowAt 24 i s)) 0)))
@@ -224,29 +232,36 @@ module _ (low n m : ℕ) (s c : List ℕ) where
         unfolding inUse trimmedRows
         in-use =
             any-filter (hasTag own) (stays low (rowsIn 24 n s) (rowsIn 8 m c)) (rowsIn 24 n s)
-            ∙ any-same (λ r. if stays low (rowsIn 24 n s) (rowsIn 8 m c) r then hasTag own r else false) (lasting own (j + 1) marks₀) 24 n s (λ k l. same k l (ℕ-discrete (tagOf (rowAt 24 k s)) own))
+            ∙ any-same (λ r. if stays low (rowsIn 24 n s) (rowsIn 8 m c) r then hasTag own r else false) (lasting own (j + 1) marks₀) 24 n s
+            (λ k l. same k l (ℕ-discrete (tagOf (rowAt 24 k s)) own))
           where
             same : (k : ℕ) → k < n → Dec (tagOf (rowAt 24 k s) ≡ own)
-                → (if stays low (rowsIn 24 n s) (rowsIn 8 m c) (rowAt 24 k s) then hasTag own (rowAt 24 k s) else false) ≡ lasting own (j + 1) marks₀ (rowAt 24 k s)
-            same k l (yes q) = rw (tag-yes own (rowAt 24 k s) q, stays-unmarked k l q) (if-itself (not (ltb (j + 1) (getD marks₀ (cellOf (rowAt 24 k s)) 0))))
+                → (if stays low (rowsIn 24 n s) (rowsIn 8 m c) (rowAt 24 k s) then hasTag own (rowAt 24 k s) else false) ≡ lasting own (j + 1) marks₀
+                (rowAt 24 k s)
+            same k l (yes q) = rw (tag-yes own (rowAt 24 k s) q, stays-unmarked k l q)
+                (if-itself (not (ltb (j + 1) (getD marks₀ (cellOf (rowAt 24 k s)) 0))))
             same k l (no q) = rw (tag-no own (rowAt 24 k s) q) (if-same (stays low (rowsIn 24 n s) (rowsIn 8 m c) (rowAt 24 k s)) false)
 
         used-more : (uses₀ uses : List ℕ) → Used low n m s c (j + 1) uses₀ → length uses ≡ 1024
-            → getD uses j 0 ≡ (if any (lasting own (j + 1) marks₀) (rowsIn 24 n s) then 1 else getD uses₀ j 0) → ((k : ℕ) → (k ≡ j → ⊥) → getD uses k 0 ≡ getD uses₀ k 0)
+            → getD uses j 0 ≡ (if any (lasting own (j + 1) marks₀) (rowsIn 24 n s) then 1 else getD uses₀ j 0) →
+            ((k : ℕ) → (k ≡ j → ⊥) → getD uses k 0 ≡ getD uses₀ k 0)
             → Used low n m s c j uses
         used-more uses₀ uses u e here others =
             record { size = e; before = λ k l. others k (λ z. omega arith) ∙ u .before k (omega arith); each = λ k a b. each k a b (ℕ-discrete k j) }
           where
-            each : (k : ℕ) → j ≤ k → k < m → Dec (k ≡ j) → getD uses k 0 ≡ (if inUse (trimmedRows low (rowsIn 24 n s) (rowsIn 8 m c)) (rowAt 8 k c) then 1 else 0)
+            each : (k : ℕ) → j ≤ k → k < m → Dec (k ≡ j) → getD uses k 0 ≡
+                (if inUse (trimmedRows low (rowsIn 24 n s) (rowsIn 8 m c)) (rowAt 8 k c) then 1 else 0)
             each k a b (yes z) = rw (z, in-use) (here ∙ rw (u .before j (omega arith)))
             each k a b (no z) = others k z ∙ u .each k (omega (arith, a, z)) b
 
       module _ (ordered : orderlyCommits (rowsIn 8 m c) ≡ true) (seen₀ flags₀ uses₀ : List ℕ) (d : SoFar low n m s c (j + 1) seen₀ flags₀ uses₀)
           (seen marks flags uses : List ℕ) (i : ℕ) (e : n ≤ i)
-          (sv : Serving (leb (commitNumber (rowAt 8 j c)) low) own (j + 1) n j s marks₀ flags₀ uses₀ marks flags uses i) (st : Stamped own (j + 1) n s seen₀ seen i) where
+          (sv : Serving (leb (commitNumber (rowAt 8 j c)) low) own (j + 1) n j s marks₀ flags₀ uses₀ marks flags uses i)
+          (st : Stamped own (j + 1) n s seen₀ seen i) where
         pub marks-done : Marks low n m s c j marks
         unfolding serves
-        marks-done = marks-more marks (sv .marks-size) (serving-marks (leb (commitNumber (rowAt 8 j c)) low) own (j + 1) n j s marks₀ flags₀ uses₀ marks flags uses i e sv)
+        marks-done = marks-more marks (sv .marks-size) (serving-marks (leb (commitNumber (rowAt 8 j c)) low) own
+            (j + 1) n j s marks₀ flags₀ uses₀ marks flags uses i e sv)
 
         plain : (k : ℕ) → k < n → tagOf (rowAt 24 k s) ≡ own → Plain n s k
         plain = stamped-plain own (j + 1) n s seen₀ seen i e st

@@ -41,5 +41,6 @@ carry-by P (suc d) from more p =
 pub carry : {Hit : ℕ → Type 0} {from n r : ℕ} (P : ℕ → Type 0) → Next Hit from n r → ((k : ℕ) → k < n → (Hit k → ⊥) → P k → P (k + 1)) → P from → P r
 carry {from = from} {r = r} P pass more p =
     let e : from + (r - from) ≡ r = omega (arith, pass .start) in
-    let q : P (from + (r - from)) = carry-by P (r - from) from (λ k l b. more k (omega (arith, pass .end)) (pass .misses k l (omega (arith, pass .start)))) p in
+    let q : P (from + (r - from)) = carry-by P (r - from) from
+    (λ k l b. more k (omega (arith, pass .end)) (pass .misses k l (omega (arith, pass .start)))) p in
     rw e at q

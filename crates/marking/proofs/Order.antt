@@ -50,7 +50,8 @@ unless-right false x e = e
 -- ---- a row that passes is somewhere
 
 module _ (p : Row → Bool) (w n : ℕ) (s : List ℕ) where
-  some-step : (C : Type 0) (i : ℕ) → any p (rowsFrom w n i s) ≡ true → (i < n → p (rowAt w i s) ≡ true → C) → (any p (rowsFrom w n (i + 1) s) ≡ true → C) → C
+  some-step : (C : Type 0) (i : ℕ) → any p (rowsFrom w n i s) ≡ true → (i < n → p (rowAt w i s) ≡ true → C) →
+      (any p (rowsFrom w n (i + 1) s) ≡ true → C) → C
   some-step C i e here rest = go (decLt i n)
     where
       test : i < n → (b : Bool) → p (rowAt w i s) ≡ b → (if b then true else any p (rowsFrom w n (i + 1) s)) ≡ true → C
@@ -112,7 +113,8 @@ module _ (m : ℕ) (c : List ℕ) where
   from-on e zero h = rw (← rows-start 8 m c) e
   from-on e (suc i) h =
       let z : suc i ≡ i + 1 = omega arith in
-      rw z (unless-right (Again i) (Rest (i + 1)) (if-right (Low i) (if Again i then false else Rest (i + 1)) (sym (order-step i h) ∙ from-on e i (omega arith))))
+      rw z (unless-right (Again i) (Rest (i + 1)) (if-right (Low i) (if Again i then false else Rest (i + 1))
+      (sym (order-step i h) ∙ from-on e i (omega arith))))
 
   pub disorder : (i : ℕ) → i ≤ m → Rest i ≡ false → orderlyCommits (rowsIn 8 m c) ≡ false
   disorder i h f = go (orderlyCommits (rowsIn 8 m c)) refl
@@ -146,7 +148,8 @@ module _ (m : ℕ) (c : List ℕ) where
     next-number : (j : ℕ) → j + 1 < m → commitNumber (rowAt 8 j c) < commitNumber (rowAt 8 (j + 1) c)
     unfolding under
     next-number j h =
-        let low : Low j ≡ true = if-left (Low j) (if Again j then false else Rest (j + 1)) (sym (order-step j (omega arith)) ∙ from-on e j (omega arith)) in
+        let low : Low j ≡ true = if-left (Low j) (if Again j then false else Rest (j + 1))
+        (sym (order-step j (omega arith)) ∙ from-on e j (omega arith)) in
         ltb-true (commitNumber (rowAt 8 j c)) (commitNumber (rowAt 8 (j + 1) c)) (rw (rows-step 8 m (j + 1) c h) at low)
 
     rise-by : (d j : ℕ) → j + suc d < m → commitNumber (rowAt 8 j c) < commitNumber (rowAt 8 (j + suc d) c)
@@ -167,7 +170,8 @@ module _ (m : ℕ) (c : List ℕ) where
 
     -- no later row has the tag
     pub alone : (j : ℕ) → j < m → any (commits (commitTag (rowAt 8 j c))) (rowsFrom 8 m (j + 1) c) ≡ false
-    alone j h = unless-left (Again j) (Rest (j + 1)) (if-right (Low j) (if Again j then false else Rest (j + 1)) (sym (order-step j h) ∙ from-on e j (omega arith)))
+    alone j h = unless-left (Again j) (Rest (j + 1)) (if-right (Low j) (if Again j then false else Rest (j + 1))
+        (sym (order-step j h) ∙ from-on e j (omega arith)))
 
     pub distinct : (j k : ℕ) → j < k → k < m → commitTag (rowAt 8 j c) ≡ commitTag (rowAt 8 k c) → ⊥
     unfolding commits
@@ -177,7 +181,8 @@ module _ (m : ℕ) (c : List ℕ) where
     number-of j tag h q = commit-first tag m c j h q (λ i l f. distinct i j l h (f ∙ sym q))
 
     -- the tag that a data row has, committed under that number, is that of a committed row
-    pub committed : (C : Type 0) (tag v : ℕ) → commitOf tag (rowsIn 8 m c) ≡ Some v → ((k : ℕ) → k < m → commitTag (rowAt 8 k c) ≡ tag → commitNumber (rowAt 8 k c) ≡ v → C) → C
+    pub committed : (C : Type 0) (tag v : ℕ) → commitOf tag (rowsIn 8 m c) ≡ Some v →
+        ((k : ℕ) → k < m → commitTag (rowAt 8 k c) ≡ tag → commitNumber (rowAt 8 k c) ≡ v → C) → C
     unfolding commits
     committed C tag v q found = go (any (commits tag) (rowsIn 8 m c)) refl
       where
@@ -232,23 +237,34 @@ module _ (m : ℕ) (c : List ℕ) where
               committed (served low ds (rowsFrom 8 m (j + 1) c) x ≡ true) (tagOf (rowAt 24 i s)) v y
               (λ k l t u. from-at (serves low ds x) 8 m c (j + 1) k
               (behind k l (rw u (ltb-true own v (if-left (ltb own v) (leb v low) z)))) l
-              (rw (u, if-right (ltb own v) (leb v low) z) (any-at (isOwn (commitTag (rowAt 8 k c)) x) 24 n s i g (own-yes (commitTag (rowAt 8 k c)) x (rowAt 24 i s) (sym t) q))))
+              (rw (u, if-right (ltb own v) (leb v low) z) (any-at (isOwn (commitTag (rowAt 8 k c)) x) 24 n s i g
+              (own-yes (commitTag (rowAt 8 k c)) x (rowAt 24 i s) (sym t) q))))
 
           row : (i : ℕ) → i < n → later cs low x own (rowAt 24 i s) ≡ true → served low ds (rowsFrom 8 m (j + 1) c) x ≡ true
           row i g q =
               let b : Bool = between own low (commitOf (tagOf (rowAt 24 i s)) cs) in
-              number i g (eqb-true (cellOf (rowAt 24 i s)) x (if-left (eqb (cellOf (rowAt 24 i s)) x) b q)) (commitOf (tagOf (rowAt 24 i s)) cs) refl (if-right (eqb (cellOf (rowAt 24 i s)) x) b q)
+              number i g (eqb-true (cellOf (rowAt 24 i s)) x (if-left (eqb (cellOf (rowAt 24 i s)) x) b q)) (commitOf (tagOf (rowAt 24 i s)) cs) refl
+              (if-right (eqb (cellOf (rowAt 24 i s)) x) b q)
 
       served-later : served low ds (rowsFrom 8 m (j + 1) c) x ≡ true → any (later cs low x own) ds ≡ true
       unfolding later between served serves wrote isOwn
       served-later f = some-from (serves low ds x) 8 m c (any (later cs low x own) ds ≡ true) (j + 1) f commit
         where
-          row : (k : ℕ) → j + 1 ≤ k → k < m → commitNumber (rowAt 8 k c) ≤ low → (i : ℕ) → i < n → isOwn (commitTag (rowAt 8 k c)) x (rowAt 24 i s) ≡ true → any (later cs low x own) ds ≡ true
+          row : (k : ℕ) → j + 1 ≤ k → k < m → commitNumber (rowAt 8 k c) ≤ low → (i : ℕ) → i < n → isOwn (commitTag (rowAt 8 k c)) x (rowAt 24 i s)
+              ≡ true → any (later cs low x own) ds ≡ true
           row k l g b i r q =
-              let t : tagOf (rowAt 24 i s) ≡ commitTag (rowAt 8 k c) = eqb-true _ _ (if-left (eqb (tagOf (rowAt 24 i s)) (commitTag (rowAt 8 k c))) (eqb (cellOf (rowAt 24 i s)) x) q) in
-              let y : cellOf (rowAt 24 i s) ≡ x = eqb-true _ _ (if-right (eqb (tagOf (rowAt 24 i s)) (commitTag (rowAt 8 k c))) (eqb (cellOf (rowAt 24 i s)) x) q) in
+              let t : tagOf (rowAt 24 i s) ≡ commitTag (rowAt 8 k c) = eqb-true _ _
+              (if-left (eqb (tagOf (rowAt 24 i s)) (commitTag (rowAt 8 k c))) (eqb (cellOf (rowAt 24 i s)) x) q) in
+              let y : cellOf (rowAt 24 i s) ≡ x = eqb-true _ _
+              (if-right (eqb (tagOf (rowAt 24 i s)) (commitTag (rowAt 8 k c))) (eqb (cellOf (rowAt 24 i s)) x) q) in
               any-at (later cs low x own) 24 n s i r
-              (rw (eq-eqb (cellOf (rowAt 24 i s)) x y, number-of k (tagOf (rowAt 24 i s)) g (sym t), lt-ltb own (commitNumber (rowAt 8 k c)) (rise j k (omega arith) g), le-leb (commitNumber (rowAt 8 k c)) low b))
+              (rw (
+                eq-eqb (cellOf (rowAt 24 i s)) x y,
+                number-of k (tagOf (rowAt 24 i s)) g (sym t),
+                lt-ltb own (commitNumber (rowAt 8 k c))
+                    (rise j k (omega arith) g),
+                le-leb (commitNumber (rowAt 8 k c)) low b,
+              ))
 
           commit : (k : ℕ) → j + 1 ≤ k → k < m → serves low ds x (rowAt 8 k c) ≡ true → any (later cs low x own) ds ≡ true
           commit k l g q =
@@ -260,7 +276,8 @@ module _ (m : ℕ) (c : List ℕ) where
       pub stays-served : (r : Row) → tagOf r ≡ commitTag (rowAt 8 j c) → cellOf r ≡ x → stays low ds cs r ≡ not (served low ds (rowsFrom 8 m (j + 1) c) x)
       unfolding stays overtaken
       stays-served r t q =
-          rw (number-of j (tagOf r) h (sym t), q) (ap not (both-ways (any (later cs low x own) ds) (served low ds (rowsFrom 8 m (j + 1) c) x) later-served served-later))
+          rw (number-of j (tagOf r) h (sym t), q) (ap not (both-ways (any (later cs low x own) ds)
+          (served low ds (rowsFrom 8 m (j + 1) c) x) later-served served-later))
 
 -- ---- what orderly data rows are
 
@@ -279,12 +296,14 @@ module _ (n : ℕ) (s : List ℕ) where
   plain-on e zero h = rw (← rows-start 24 n s) e
   plain-on e (suc i) h =
       let z : suc i ≡ i + 1 = omega arith in
-      rw z (unless-right (Twice i) (Left (i + 1)) (unless-right (leb 1024 (cellOf (rowAt 24 i s))) (if Twice i then false else Left (i + 1)) (sym (plain-step i h) ∙ plain-on e i (omega arith))))
+      rw z (unless-right (Twice i) (Left (i + 1)) (unless-right (leb 1024 (cellOf (rowAt 24 i s))) (if Twice i then false else Left (i + 1))
+      (sym (plain-step i h) ∙ plain-on e i (omega arith))))
 
   -- "a cell is above 1,023"
   pub plain-cell : orderlyRows (rowsIn 24 n s) ≡ true → (i : ℕ) → i < n → cellOf (rowAt 24 i s) < 1024
   plain-cell e i h =
-      leb-false 1024 (cellOf (rowAt 24 i s)) (unless-left (leb 1024 (cellOf (rowAt 24 i s))) (if Twice i then false else Left (i + 1)) (sym (plain-step i h) ∙ plain-on e i (omega arith)))
+      leb-false 1024 (cellOf (rowAt 24 i s)) (unless-left (leb 1024 (cellOf (rowAt 24 i s))) (if Twice i then false else Left (i + 1))
+      (sym (plain-step i h) ∙ plain-on e i (omega arith)))
 
   pub displain : (i : ℕ) → i ≤ n → Left i ≡ false → orderlyRows (rowsIn 24 n s) ≡ false
   displain i h f = go (orderlyRows (rowsIn 24 n s)) refl
@@ -317,7 +336,8 @@ unfolding orderly
 disorder-rows ds cs e = rw e (if-same (orderlyCommits cs) false)
 
 -- where the committed rows are orderly a test of the data rows decides
-pub decided : (b : Bool) (ds cs : List Row) → orderlyCommits cs ≡ true → (b ≡ true → orderlyRows ds ≡ true) → (b ≡ false → orderlyRows ds ≡ false) → b ≡ orderly ds cs
+pub decided : (b : Bool) (ds cs : List Row) → orderlyCommits cs ≡ true → (b ≡ true → orderlyRows ds ≡ true) → (b ≡ false → orderlyRows ds ≡ false) → b
+    ≡ orderly ds cs
 unfolding orderly
 decided true ds cs o f g = rw (o, f refl)
 decided false ds cs o f g = rw (o, g refl)

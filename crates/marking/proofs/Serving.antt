@@ -30,7 +30,8 @@ lasting tag mark marks r = if hasTag tag r then not (ltb mark (getD marks (cellO
 
 -- a row's flag in the end
 abbrev pub judge : ℕ → ℕ → List ℕ → List ℕ → List ℕ → ℕ → ℕ
-judge tag mark s marks flags k = if hasTag tag (rowAt 24 k s) then (if ltb mark (getD marks (cellOf (rowAt 24 k s)) 0) then 0 else getD flags k 0) else getD flags k 0
+judge tag mark s marks flags k = if hasTag tag (rowAt 24 k s) then
+    (if ltb mark (getD marks (cellOf (rowAt 24 k s)) 0) then 0 else getD flags k 0) else getD flags k 0
 
 -- what is so when rows before i are done; marks₀, flags₀ and uses₀ stood there before
 pub record Serving (counts : Bool) (tag mark n j : ℕ) (s marks₀ flags₀ uses₀ marks flags uses : List ℕ) (i : ℕ) : Type 0 where
@@ -38,10 +39,12 @@ pub record Serving (counts : Bool) (tag mark n j : ℕ) (s marks₀ flags₀ use
   pub flags-size : length flags ≡ 1024
   pub uses-size : length uses ≡ 1024
   pub each : (x : ℕ) → x < 1024
-      → due mark (if counts then wrote (rowsFrom 24 n i s) tag x else false) (getD marks x 0) ≡ due mark (if counts then wrote (rowsIn 24 n s) tag x else false) (getD marks₀ x 0)
+      → due mark (if counts then wrote (rowsFrom 24 n i s) tag x else false) (getD marks x 0) ≡ due mark
+      (if counts then wrote (rowsIn 24 n s) tag x else false) (getD marks₀ x 0)
   pub above : (x : ℕ) → x < 1024 → ltb mark (getD marks x 0) ≡ ltb mark (getD marks₀ x 0)
   pub flag : (k : ℕ) → k < n → getD flags k 0 ≡ (if ltb k i then judge tag mark s marks₀ flags₀ k else getD flags₀ k 0)
-  pub in-use : (if any (lasting tag mark marks₀) (rowsFrom 24 n i s) then 1 else getD uses j 0) ≡ (if any (lasting tag mark marks₀) (rowsIn 24 n s) then 1 else getD uses₀ j 0)
+  pub in-use : (if any (lasting tag mark marks₀) (rowsFrom 24 n i s) then 1 else getD uses j 0) ≡
+      (if any (lasting tag mark marks₀) (rowsIn 24 n s) then 1 else getD uses₀ j 0)
   pub others : (k : ℕ) → (k ≡ j → ⊥) → getD uses k 0 ≡ getD uses₀ k 0
 
 module _ (counts : Bool) (tag mark n j : ℕ) (s marks₀ flags₀ uses₀ : List ℕ) where
@@ -75,7 +78,8 @@ module _ (counts : Bool) (tag mark n j : ℕ) (s marks₀ flags₀ uses₀ : Lis
 
     -- a row that does not last
     pass-use : lasting tag mark marks₀ (rowAt 24 i s) ≡ false
-        → (if any (lasting tag mark marks₀) (rowsFrom 24 n (i + 1) s) then 1 else getD uses j 0) ≡ (if any (lasting tag mark marks₀) (rowsIn 24 n s) then 1 else getD uses₀ j 0)
+        → (if any (lasting tag mark marks₀) (rowsFrom 24 n (i + 1) s) then 1 else getD uses j 0) ≡
+        (if any (lasting tag mark marks₀) (rowsIn 24 n s) then 1 else getD uses₀ j 0)
     pass-use e =
         let w : any (lasting tag mark marks₀) (rowsFrom 24 n i s) ≡ any (lasting tag mark marks₀) (rowsFrom 24 n (i + 1) s) =
         any-step (lasting tag mark marks₀) 24 n i s h ∙ rw e in
@@ -83,7 +87,8 @@ module _ (counts : Bool) (tag mark n j : ℕ) (s marks₀ flags₀ uses₀ : Lis
 
     -- a row that lasts
     take-use : j < 1024 → lasting tag mark marks₀ (rowAt 24 i s) ≡ true
-        → (if any (lasting tag mark marks₀) (rowsFrom 24 n (i + 1) s) then 1 else getD (set uses j 1) j 0) ≡ (if any (lasting tag mark marks₀) (rowsIn 24 n s) then 1 else getD uses₀ j 0)
+        → (if any (lasting tag mark marks₀) (rowsFrom 24 n (i + 1) s) then 1 else getD (set uses j 1) j 0) ≡
+        (if any (lasting tag mark marks₀) (rowsIn 24 n s) then 1 else getD uses₀ j 0)
     take-use room e =
         let w : any (lasting tag mark marks₀) (rowsFrom 24 n i s) ≡ true = any-step (lasting tag mark marks₀) 24 n i s h ∙ rw e in
         let old : _≡_ {A = ℕ} 1 (if any (lasting tag mark marks₀) (rowsIn 24 n s) then 1 else getD uses₀ j 0) = rw w at (m .in-use) in
@@ -130,7 +135,8 @@ module _ (counts : Bool) (tag mark n j : ℕ) (s marks₀ flags₀ uses₀ : Lis
           }
         where
           each : (x : ℕ) → x < 1024 → Dec (cell ≡ x)
-              → due mark (if counts then wrote (rowsFrom 24 n (i + 1) s) tag x else false) (getD marks x 0) ≡ due mark (if counts then wrote (rowsIn 24 n s) tag x else false) (getD marks₀ x 0)
+              → due mark (if counts then wrote (rowsFrom 24 n (i + 1) s) tag x else false) (getD marks x 0) ≡ due mark
+              (if counts then wrote (rowsIn 24 n s) tag x else false) (getD marks₀ x 0)
           each x l (yes q) =
               let t : ltb mark (getD marks x 0) ≡ true = rw (← q) (lt-ltb mark (getD marks cell 0) b) in
               rw t (sym (rw t) ∙ m .each x l)
@@ -170,10 +176,12 @@ module _ (counts : Bool) (tag mark n j : ℕ) (s marks₀ flags₀ uses₀ : Lis
             stored : getD (set marks cell mark) cell 0 ≡ mark
             stored = getD-set-same marks cell mark 0 (omega (arith, m .marks-size))
 
-            before : (x : ℕ) → x < 1024 → due mark (wrote (rowsFrom 24 n i s) tag x) (getD marks x 0) ≡ due mark (wrote (rowsIn 24 n s) tag x) (getD marks₀ x 0)
+            before : (x : ℕ) → x < 1024 → due mark (wrote (rowsFrom 24 n i s) tag x) (getD marks x 0) ≡ due mark (wrote (rowsIn 24 n s) tag x)
+                (getD marks₀ x 0)
             before x l = rw c at (m .each x l)
 
-            each : (x : ℕ) → x < 1024 → Dec (x ≡ cell) → due mark (wrote (rowsFrom 24 n (i + 1) s) tag x) (getD (set marks cell mark) x 0) ≡ due mark (wrote (rowsIn 24 n s) tag x) (getD marks₀ x 0)
+            each : (x : ℕ) → x < 1024 → Dec (x ≡ cell) → due mark (wrote (rowsFrom 24 n (i + 1) s) tag x) (getD (set marks cell mark) x 0) ≡ due mark
+                (wrote (rowsIn 24 n s) tag x) (getD marks₀ x 0)
             each x l (yes q) =
                 let w : wrote (rowsFrom 24 n i s) tag cell ≡ true = wrote-hit tag cell 24 n i s h e ∙ rw (eq-eqb (cellOf (rowAt 24 i s)) cell (sym f)) in
                 let old : due mark (wrote (rowsFrom 24 n i s) tag cell) (getD marks cell 0) ≡ mark = rw (not-above, w) in

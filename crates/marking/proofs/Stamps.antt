@@ -23,7 +23,8 @@ use Rattle.marking.proofs.Order.{differ, if-left, if-right, some-from, 
 pub record Stamped (tag mark n : ℕ) (s seen₀ seen : List ℕ) (i : ℕ) : Type 0 where
   pub room : length seen ≡ 1024
   pub small : (k : ℕ) → k < i → tagOf (rowAt 24 k s) ≡ tag → cellOf (rowAt 24 k s) < 1024
-  pub lone : (b : ℕ) → b < i → (a : ℕ) → a < b → tagOf (rowAt 24 a s) ≡ tag → tagOf (rowAt 24 b s) ≡ tag → cellOf (rowAt 24 a s) ≡ cellOf (rowAt 24 b s) → ⊥
+  pub lone : (b : ℕ) → b < i → (a : ℕ) → a < b → tagOf (rowAt 24 a s) ≡ tag → tagOf (rowAt 24 b s) ≡ tag → cellOf (rowAt 24 a s) ≡ cellOf
+      (rowAt 24 b s) → ⊥
   pub done : (k : ℕ) → k < i → tagOf (rowAt 24 k s) ≡ tag → getD seen (cellOf (rowAt 24 k s)) 0 ≡ mark
   pub only : (x : ℕ) → x < 1024 → getD seen x 0 ≡ mark → ((k : ℕ) → k < i → tagOf (rowAt 24 k s) ≡ tag → cellOf (rowAt 24 k s) ≡ x → ⊥) → ⊥
   pub kept : (x v : ℕ) → x < 1024 → (v ≡ mark → ⊥) → getD seen x 0 ≡ v → getD seen₀ x 0 ≡ v
@@ -48,7 +49,8 @@ module _ (tag mark n : ℕ) (s seen₀ : List ℕ) where
           room = m .room;
           small = below-more (λ k. tagOf (rowAt 24 k s) ≡ tag → cellOf (rowAt 24 k s) < 1024) i (m .small) (λ t. absurd (ne t));
           lone =
-              below-more (λ b. (a : ℕ) → a < b → tagOf (rowAt 24 a s) ≡ tag → tagOf (rowAt 24 b s) ≡ tag → cellOf (rowAt 24 a s) ≡ cellOf (rowAt 24 b s) → ⊥) i (m .lone)
+              below-more (λ b. (a : ℕ) → a < b → tagOf (rowAt 24 a s) ≡ tag → tagOf (rowAt 24 b s) ≡ tag → cellOf (rowAt 24 a s) ≡ cellOf
+              (rowAt 24 b s) → ⊥) i (m .lone)
               (λ a g t u q. ne u);
           done = below-more (λ k. tagOf (rowAt 24 k s) ≡ tag → getD seen (cellOf (rowAt 24 k s)) 0 ≡ mark) i (m .done) (λ t. absurd (ne t));
           only = λ x l q none. m .only x l q (λ k g. none k (omega arith));
@@ -63,7 +65,8 @@ module _ (tag mark n : ℕ) (s seen₀ : List ℕ) where
             room = simp length-set (m .room);
             small = below-more (λ k. tagOf (rowAt 24 k s) ≡ tag → cellOf (rowAt 24 k s) < 1024) i (m .small) (λ u. rw (← f) h);
             lone =
-                below-more (λ b. (a : ℕ) → a < b → tagOf (rowAt 24 a s) ≡ tag → tagOf (rowAt 24 b s) ≡ tag → cellOf (rowAt 24 a s) ≡ cellOf (rowAt 24 b s) → ⊥) i (m .lone)
+                below-more (λ b. (a : ℕ) → a < b → tagOf (rowAt 24 a s) ≡ tag → tagOf (rowAt 24 b s) ≡ tag → cellOf (rowAt 24 a s) ≡ cellOf
+                (rowAt 24 b s) → ⊥) i (m .lone)
                 (λ a g u v q. new (rw (q ∙ sym f) at (m .done a g u)));
             done =
                 below-more (λ k. tagOf (rowAt 24 k s) ≡ tag → getD (set seen cell mark) (cellOf (rowAt 24 k s)) 0 ≡ mark) i
@@ -79,7 +82,8 @@ module _ (tag mark n : ℕ) (s seen₀ : List ℕ) where
           old x q (yes e) = rw e stored
           old x q (no e) = rw (getD-set-other seen cell x mark 0 e) q
 
-          only : (x : ℕ) → x < 1024 → getD (set seen cell mark) x 0 ≡ mark → ((k : ℕ) → k < i + 1 → tagOf (rowAt 24 k s) ≡ tag → cellOf (rowAt 24 k s) ≡ x → ⊥) → Dec (x ≡ cell) → ⊥
+          only : (x : ℕ) → x < 1024 → getD (set seen cell mark) x 0 ≡ mark →
+              ((k : ℕ) → k < i + 1 → tagOf (rowAt 24 k s) ≡ tag → cellOf (rowAt 24 k s) ≡ x → ⊥) → Dec (x ≡ cell) → ⊥
           only x l q none (yes e) = none i (omega arith) t (sym f ∙ sym e)
           only x l q none (no e) = m .only x l (rw (getD-set-other seen cell x mark 0 e) at q) (λ k g. none k (omega arith))
 
@@ -107,7 +111,11 @@ module _ (tag mark n : ℕ) (s seen₀ : List ℕ) where
   module _ (seen : List ℕ) (i : ℕ) (h : n ≤ i) (m : Stamped tag mark n s seen₀ seen i) where
     pub stamped-plain : (k : ℕ) → k < n → tagOf (rowAt 24 k s) ≡ tag → Plain n s k
     unfolding wrote isOwn
-    stamped-plain k l t = record { small = m .small k (omega arith) t; alone = go (wrote (rowsFrom 24 n (k + 1) s) (tagOf (rowAt 24 k s)) (cellOf (rowAt 24 k s))) refl }
+    stamped-plain k l t = record {
+      small = m .small k (omega arith) t;
+      alone = go
+          (wrote (rowsFrom 24 n (k + 1) s) (tagOf (rowAt 24 k s)) (cellOf (rowAt 24 k s))) refl;
+    }
       where
         again : (b : ℕ) → k + 1 ≤ b → b < n → isOwn (tagOf (rowAt 24 k s)) (cellOf (rowAt 24 k s)) (rowAt 24 b s) ≡ true → ⊥
         again b g r e =

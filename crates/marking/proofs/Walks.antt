@@ -23,7 +23,8 @@ module _ (tag n k : ℕ) (c : List ℕ) (h : k < n) where
   tag-here e = any-step (commits tag) 8 n k c h ∙ rw (eq-eqb (commitTag (rowAt 8 k c)) tag e)
 
 module _ (tag cell n k : ℕ) (s : List ℕ) (h : k < n) where
-  pub own-miss : (tagOf (rowAt 24 k s) ≡ tag → cellOf (rowAt 24 k s) ≡ cell → ⊥) → wrote (rowsFrom 24 n k s) tag cell ≡ wrote (rowsFrom 24 n (k + 1) s) tag cell
+  pub own-miss : (tagOf (rowAt 24 k s) ≡ tag → cellOf (rowAt 24 k s) ≡ cell → ⊥) → wrote (rowsFrom 24 n k s) tag cell ≡ wrote
+      (rowsFrom 24 n (k + 1) s) tag cell
   unfolding wrote isOwn
   own-miss ne = any-step (isOwn tag cell) 24 n k s h ∙ rw (go (eqb (tagOf (rowAt 24 k s)) tag) refl)
     where

@@ -19,8 +19,11 @@ use Rattle.marking.proofs.from_newest.Tie as tie
 returns : tie.Need-returns
 returns c =
     let a = c .before .before .before .before .before .before .args in
-    let disorderly : orderlyCommits (rowsIn 8 (a .entries) (a .commits .now)) ≡ false = sym (c .before .commits-orderly .ensures .0) ∙ not-true (c .before .commits-orderly .result) (c .if1 .taken) in
-    (sym (disorder-commits (rowsIn 24 (a .used) (a .rows .now)) (rowsIn 8 (a .entries) (a .commits .now)) disorderly), (λ e. absurd (differ e refl), λ e. absurd (differ e refl)))
+    let disorderly : orderlyCommits (rowsIn 8 (a .entries) (a .commits .now)) ≡ false = sym (c .before .commits-orderly .ensures .0) ∙ not-true
+    (c .before .commits-orderly .result) (c .if1 .taken) in (
+      sym (disorder-commits (rowsIn 24 (a .used) (a .rows .now)) (rowsIn 8 (a .entries) (a .commits .now)) disorderly),
+      (λ e. absurd (differ e refl), λ e. absurd (differ e refl)),
+    )
 
 link-rows-requires : tie.Need-link-rows-requires
 link-rows-requires c κs =
@@ -32,7 +35,8 @@ link-rows-requires c κs =
 -- the first row that is not committed
 first-open : (c : tie.After-link-rows)
     → let a = c .before .before .before .before .before .before .before .before .before .before .before .args in
-    Next (λ k. rowEntry (a .entries) (a .commits .now) (a .rows .now) k ≡ a .entries) 0 (a .used) (getD (c .link-rows .last .1 .1 .1 .1 .1 .1 .0) (a .entries) 0)
+    Next (λ k. rowEntry (a .entries) (a .commits .now) (a .rows .now) k ≡ a .entries) 0 (a .used)
+    (getD (c .link-rows .last .1 .1 .1 .1 .1 .1 .0) (a .entries) 0)
 first-open c =
     let start = c .before .before .before .before .before .before .before .before .before .before .before in
     c .link-rows .ensures .1 .head (start .args .entries) (omega (arith, start .pre .1 .1 .1 .0))
@@ -50,7 +54,8 @@ open-plain-from-requires c κs =
         start .pre .1 .0,
         (
           entries-alike (a .used) (a .entries) (a .rows .now) (a .commits .now) (linked .result) (start .pre .1 .1 .1 .0) (linked .ensures .0),
-          entries-open (a .used) (a .entries) (a .rows .now) (a .commits .now) (linked .result) (getD (linked .last .1 .1 .1 .1 .1 .1 .0) (a .entries) 0) (linked .ensures .0) (first-open (c .before)),
+          entries-open (a .used) (a .entries) (a .rows .now) (a .commits .now) (linked .result)
+              (getD (linked .last .1 .1 .1 .1 .1 .1 .0) (a .entries) 0) (linked .ensures .0) (first-open (c .before)),
         ),
       ),
     )
@@ -58,8 +63,11 @@ open-plain-from-requires c κs =
 returns-2 : tie.Need-returns-2
 returns-2 c =
     let a = c .before .before .before .before .before .before .before .before .before .before .before .before .before .before .args in
-    let disorderly : orderlyRows (rowsIn 24 (a .used) (a .rows .now)) ≡ false = c .before .open-plain-from .ensures .not-plain (not-true (c .before .open-plain-from .result) (c .if2 .taken)) in
-    (sym (disorder-rows (rowsIn 24 (a .used) (a .rows .now)) (rowsIn 8 (a .entries) (a .commits .now)) disorderly), (λ e. absurd (differ e refl), λ e. absurd (differ e refl)))
+    let disorderly : orderlyRows (rowsIn 24 (a .used) (a .rows .now)) ≡ false = c .before .open-plain-from .ensures .not-plain
+    (not-true (c .before .open-plain-from .result) (c .if2 .taken)) in (
+      sym (disorder-rows (rowsIn 24 (a .used) (a .rows .now)) (rowsIn 8 (a .entries) (a .commits .now)) disorderly),
+      (λ e. absurd (differ e refl), λ e. absurd (differ e refl)),
+    )
 
 -- the committed rows are orderly
 ordered : (c : tie.After-link-rows)
@@ -78,7 +86,8 @@ serve-all-requires c κs =
     let marked : Marks (a .low) (a .used) (a .entries) (a .rows .now) (a .commits .now) (a .entries) (a .marks .now) =
     rw (pre .1 .1 .1 .1 .0) (marks-start (a .low) (a .used) (a .entries) (a .rows .now) (a .commits .now)) in
     let done : SoFar (a .low) (a .used) (a .entries) (a .rows .now) (a .commits .now) (a .entries) (replicate 1024 0) (a .flags .now) (a .uses .now) =
-    rw (pre .1 .1 .1 .1 .1 .0, pre .1 .1 .1 .1 .1 .1) (done-start (a .low) (a .used) (a .entries) (a .rows .now) (a .commits .now) (pre .1 .0) (pre .1 .1 .1 .0)) in
+    rw (pre .1 .1 .1 .1 .1 .0, pre .1 .1 .1 .1 .1 .1) (done-start (a .low) (a .used) (a .entries) (a .rows .now) (a .commits .now) (pre .1 .0)
+    (pre .1 .1 .1 .0)) in
     (pre .0, (pre .1 .0, (pre .1 .1 .0, (pre .1 .1 .1 .0, (ordered at, (at .link-rows .ensures .1, (marked, done)))))))
 
 returns-3 : tie.Need-returns-3
@@ -90,9 +99,11 @@ returns-3 c =
     let ds = rowsIn 24 (a .used) (a .rows .now) in
     let cs = rowsIn 8 (a .entries) (a .commits .now) in
     let tested = c .before .before .before .before .before .before .before .before in
-    let plain = tested .open-plain-from .ensures .plain (not-false (tested .open-plain-from .result) (c .before .before .before .before .before .before .before .if2 .left)) in
+    let plain = tested .open-plain-from .ensures .plain (not-false (tested .open-plain-from .result)
+    (c .before .before .before .before .before .before .before .if2 .left)) in
     let decision = decided (served .result) ds cs (ordered at)
-    (λ e. all-plain (a .low) (a .used) (a .entries) (a .rows .now) (a .commits .now) _ _ _ (at .link-rows .result) (served .ensures .1 .0 e) (at .link-rows .ensures .0) plain)
+    (λ e. all-plain (a .low) (a .used) (a .entries) (a .rows .now) (a .commits .now) _ _ _ (at .link-rows .result) (served .ensures .1 .0 e)
+    (at .link-rows .ensures .0) plain)
     (served .ensures .1 .1) in
     (decision, (served .ensures .0, λ e. done-end (a .low) (a .used) (a .entries) (a .rows .now) (a .commits .now) _ _ _ (served .ensures .1 .0 e)))
 
@@ -100,4 +111,5 @@ pub from-newest-spec : {M : Type 1} → statement M
 from-newest-spec =
     tie.close
     (tie.spec
-    (λ c. search needs) (λ c κs. search needs) returns (λ c. search needs) link-rows-requires (λ c. search needs) (λ c. search needs) cast-open open-plain-from-requires returns-2 serve-all-requires returns-3)
+    (λ c. search needs) (λ c κs. search needs) returns (λ c. search needs) link-rows-requires (λ c. search needs)
+    (λ c. search needs) cast-open open-plain-from-requires returns-2 serve-all-requires returns-3)

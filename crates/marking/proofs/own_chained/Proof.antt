@@ -48,8 +48,10 @@ loop-less c = omega (arith, rises (c .before .before .before))
 
 -- the row that was met is not the one
 other : (c : tie.Joined1 Inv-loop μ-loop)
-    → tagOf (rowAt 24 (c .before .before .before .loop .i) (c .before .before .before .before .before .args .rows .now)) ≡ c .before .before .before .before .before .args .tag
-    → cellOf (rowAt 24 (c .before .before .before .loop .i) (c .before .before .before .before .before .args .rows .now)) ≡ c .before .before .before .before .before .args .cell
+    → tagOf (rowAt 24 (c .before .before .before .loop .i) (c .before .before .before .before .before .args .rows .now))
+    ≡ c .before .before .before .before .before .args .tag
+    → cellOf (rowAt 24 (c .before .before .before .loop .i) (c .before .before .before .before .before .args .rows .now))
+    ≡ c .before .before .before .before .before .args .cell
     → ⊥
 other c e f =
     ⊎-elim (λ w. w .2 .left (w .1 .ensures ∙ f)) (λ w. w .left (c .before .tag-at .ensures ∙ e)) (c .if1 .came)

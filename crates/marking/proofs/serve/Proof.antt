@@ -36,7 +36,8 @@ abbrev μ-loop : tie.MeasureT-loop
 
 module _ (low n m j : ℕ) (s c seen₀ marks₀ flags₀ uses₀ : List ℕ) (ordered : orderlyCommits (rowsIn 8 m c) ≡ true) (h : j < m) where
   -- a row of another transaction is passed over
-  past : (seen marks flags uses : List ℕ) (k : ℕ) → k < n → (rowEntry m c s k ≡ j → ⊥) → Walked low n m j s c seen₀ marks₀ flags₀ uses₀ seen marks flags uses k
+  past : (seen marks flags uses : List ℕ) (k : ℕ) → k < n → (rowEntry m c s k ≡ j → ⊥)
+      → Walked low n m j s c seen₀ marks₀ flags₀ uses₀ seen marks flags uses k
       → Walked low n m j s c seen₀ marks₀ flags₀ uses₀ seen marks flags uses (k + 1)
   past seen marks flags uses k l ne w =
       let other : tagOf (rowAt 24 k s) ≡ commitTag (rowAt 8 j c) → ⊥ = λ e. ne (entry-of-tag m c s k ordered j h e) in (
@@ -58,13 +59,17 @@ loop-holds c =
     let done = pre .1 .1 .1 .1 in (
       chain-start (rowEntry (a .entries) (a .commits .now) (a .rows .now)) (a .used) (a .follows .now) (a .firsts .now) (a .j) 0 small (pre .1 .1 .0),
       head-carry (rowEntry (a .entries) (a .commits .now) (a .rows .now)) (a .used)
-          (λ i. Walked (a .low) (a .used) (a .entries) (a .j) (a .rows .now) (a .commits .now) (a .seen .now) (a .marks .now) (a .flags .now) (a .uses .now) (a .seen .now) (a .marks .now) (a .flags .now) (a .uses .now) i)
+          (λ i. Walked (a .low) (a .used) (a .entries) (a .j) (a .rows .now) (a .commits .now) (a .seen .now) (a .marks .now) (a .flags .now)
+          (a .uses .now) (a .seen .now) (a .marks .now) (a .flags .now) (a .uses .now) i)
           (a .follows .now) (a .j)
-          (past (a .low) (a .used) (a .entries) (a .j) (a .rows .now) (a .commits .now) (a .seen .now) (a .marks .now) (a .flags .now) (a .uses .now) (pre .0) (pre .1 .0) (a .seen .now) (a .marks .now) (a .flags .now) (a .uses .now))
+          (past (a .low) (a .used) (a .entries) (a .j) (a .rows .now) (a .commits .now) (a .seen .now) (a .marks .now) (a .flags .now) (a .uses .now)
+          (pre .0) (pre .1 .0) (a .seen .now) (a .marks .now) (a .flags .now) (a .uses .now))
           (a .firsts .now) 0 small (pre .1 .1 .0) (
-            serving-start (leb (commitNumber (rowAt 8 (a .j) (a .commits .now))) (a .low)) (commitTag (rowAt 8 (a .j) (a .commits .now))) (a .j + 1) (a .used) (a .j) (a .rows .now) (a .marks .now) (a .flags .now) (a .uses .now)
+            serving-start (leb (commitNumber (rowAt 8 (a .j) (a .commits .now))) (a .low)) (commitTag (rowAt 8 (a .j) (a .commits .now))) (a .j + 1)
+                (a .used) (a .j) (a .rows .now) (a .marks .now) (a .flags .now) (a .uses .now)
                 (pre .1 .1 .1 .0 .size) (done .judged .size) (done .used .size),
-            stamped-start (commitTag (rowAt 8 (a .j) (a .commits .now))) (a .j + 1) (a .used) (a .rows .now) (a .seen .now) (done .room) (λ x l q. done .fresh x (a .j) l (omega arith) q),
+            stamped-start (commitTag (rowAt 8 (a .j) (a .commits .now))) (a .j + 1) (a .used) (a .rows .now) (a .seen .now) (done .room)
+                (λ x l q. done .fresh x (a .j) l (omega arith) q),
           ),
     )
 
@@ -75,20 +80,27 @@ returns c =
     let h = c .before .before .loop-test .taken in
     let large : 1024 ≤ cellOf (rowAt 24 (loop .i) (a .rows .now)) = omega (arith, c .before .cell-at .ensures, c .if1 .taken) in (
       λ e. absurd (differ e refl),
-      (λ e. absurd (differ e refl), λ e. displain (a .used) (a .rows .now) (loop .i) (omega arith) (plain-large (a .used) (a .rows .now) (loop .i) h large)),
+      (
+        λ e. absurd (differ e refl),
+        λ e. displain (a .used) (a .rows .now) (loop .i) (omega arith)
+            (plain-large (a .used) (a .rows .now) (loop .i) h large),
+      ),
     )
 
 -- the row that was met is the transaction's
 own : (c : tie.In-loop Inv-loop μ-loop)
-    → tagOf (rowAt 24 (c .before .loop .i) (c .before .before .before .before .before .before .args .rows .now)) ≡ commitTag (rowAt 8 (c .before .before .before .before .before .before .args .j) (c .before .before .before .before .before .before .args .commits .now))
+    → tagOf (rowAt 24 (c .before .loop .i) (c .before .before .before .before .before .before .args .rows .now)) ≡ commitTag
+    (rowAt 8 (c .before .before .before .before .before .before .args .j) (c .before .before .before .before .before .before .args .commits .now))
 own c =
     let start = c .before .before .before .before .before .before in
     let a = start .args in
-    entry-tag (a .entries) (a .commits .now) (a .rows .now) (c .before .loop .i) (a .j) (start .pre .1 .1 .1 .1 .1 .0) (c .before .loop .inv .0 .here (c .loop-test .taken))
+    entry-tag (a .entries) (a .commits .now) (a .rows .now) (c .before .loop .i) (a .j) (start .pre .1 .1 .1 .1 .1 .0)
+    (c .before .loop .inv .0 .here (c .loop-test .taken))
 
 rises : (c : tie.In-loop Inv-loop μ-loop)
     → (c .before .loop .i < getD (c .before .before .before .before .before .before .args .follows .now) (c .before .loop .i) 0)
-    × (getD (c .before .before .before .before .before .before .args .follows .now) (c .before .loop .i) 0 ≤ c .before .before .before .before .before .before .args .used)
+    × (getD (c .before .before .before .before .before .before .args .follows .now)
+    (c .before .loop .i) 0 ≤ c .before .before .before .before .before .before .args .used)
 rises c =
     let a = c .before .before .before .before .before .before .args in
     let loop = c .before .loop in
@@ -104,7 +116,8 @@ returns-2 c =
       (
         λ e. absurd (differ e refl),
         λ e.
-            stamped-twice (commitTag (rowAt 8 (a .j) (a .commits .now))) (a .j + 1) (a .used) (a .rows .now) (a .seen .now) (loop .seen) (loop .i) (loop .inv .1 .1)
+            stamped-twice (commitTag (rowAt 8 (a .j) (a .commits .now))) (a .j + 1) (a .used) (a .rows .now) (a .seen .now) (loop .seen) (loop .i)
+            (loop .inv .1 .1)
             (own inside) (cell .result) (cell .ensures) (inside .loop-test .taken) (omega (arith, c .before .before .if1 .left)) (c .if2 .taken),
       ),
     )
@@ -129,18 +142,24 @@ met c =
     let h = inside .loop-test .taken in (
       ⊎-elim
           (λ w. rw (w .1, w .2, w .3)
-          (serving-served counts tag (a .j + 1) (a .used) (a .j) (a .rows .now) (a .marks .now) (a .flags .now) (a .uses .now) (loop .marks) (loop .flags) (loop .uses) (loop .i) h (loop .inv .1 .0)
+          (serving-served counts tag (a .j + 1) (a .used) (a .j) (a .rows .now) (a .marks .now) (a .flags .now) (a .uses .now) (loop .marks)
+          (loop .flags) (loop .uses) (loop .i) h (loop .inv .1 .0)
           (own inside) (cell .result) (cell .ensures) small (omega (arith, h, start .pre .1 .0)) (omega (arith, w .0 .taken))))
           (λ v. ⊎-elim
           (λ w. rw (w .2, w .3, w .4)
-          (serving-mark counts tag (a .j + 1) (a .used) (a .j) (a .rows .now) (a .marks .now) (a .flags .now) (a .uses .now) (loop .marks) (loop .flags) (loop .uses) (loop .i) h (loop .inv .1 .0)
-          (own inside) (cell .result) (cell .ensures) small (omega (arith, w .0 .left)) room (le-leb (commitNumber (rowAt 8 (a .j) (a .commits .now))) (a .low) (omega (arith, number .ensures, w .1 .taken)))))
+          (serving-mark counts tag (a .j + 1) (a .used) (a .j) (a .rows .now) (a .marks .now) (a .flags .now) (a .uses .now) (loop .marks)
+          (loop .flags) (loop .uses) (loop .i) h (loop .inv .1 .0)
+          (own inside) (cell .result) (cell .ensures) small (omega (arith, w .0 .left)) room
+          (le-leb (commitNumber (rowAt 8 (a .j) (a .commits .now))) (a .low) (omega (arith, number .ensures, w .1 .taken)))))
           (λ w. rw (w .2, w .3, w .4)
-          (serving-idle counts tag (a .j + 1) (a .used) (a .j) (a .rows .now) (a .marks .now) (a .flags .now) (a .uses .now) (loop .marks) (loop .flags) (loop .uses) (loop .i) h (loop .inv .1 .0)
-          (own inside) (cell .result) (cell .ensures) small (omega (arith, w .0 .left)) room (lt-leb (commitNumber (rowAt 8 (a .j) (a .commits .now))) (a .low) (omega (arith, number .ensures, w .1 .left)))))
+          (serving-idle counts tag (a .j + 1) (a .used) (a .j) (a .rows .now) (a .marks .now) (a .flags .now) (a .uses .now) (loop .marks)
+          (loop .flags) (loop .uses) (loop .i) h (loop .inv .1 .0)
+          (own inside) (cell .result) (cell .ensures) small (omega (arith, w .0 .left)) room
+          (lt-leb (commitNumber (rowAt 8 (a .j) (a .commits .now))) (a .low) (omega (arith, number .ensures, w .1 .left)))))
           v)
           (c .if3 .came),
-      stamped-more tag (a .j + 1) (a .used) (a .rows .now) (a .seen .now) (loop .seen) (loop .i) (loop .inv .1 .1) (own inside) (cell .result) (cell .ensures) small (c .before .before .if2 .left),
+      stamped-more tag (a .j + 1) (a .used) (a .rows .now) (a .seen .now) (loop .seen) (loop .i) (loop .inv .1 .1) (own inside) (cell .result)
+          (cell .ensures) small (c .before .before .if2 .left),
     )
 
 loop-again : tie.Need-loop-again Inv-loop μ-loop
@@ -153,9 +172,11 @@ loop-again c =
     let now = c .before .if3 in (
       chain-more (rowEntry (a .entries) (a .commits .now) (a .rows .now)) (a .used) (a .follows .now) (a .j) (loop .i) h (loop .inv .0),
       chain-carry (rowEntry (a .entries) (a .commits .now) (a .rows .now)) (a .used)
-          (λ i. Walked (a .low) (a .used) (a .entries) (a .j) (a .rows .now) (a .commits .now) (a .seen .now) (a .marks .now) (a .flags .now) (a .uses .now) seen (now .marks) (now .flags) (now .uses) i)
+          (λ i. Walked (a .low) (a .used) (a .entries) (a .j) (a .rows .now) (a .commits .now) (a .seen .now) (a .marks .now) (a .flags .now)
+          (a .uses .now) seen (now .marks) (now .flags) (now .uses) i)
           (a .follows .now) (a .j)
-          (past (a .low) (a .used) (a .entries) (a .j) (a .rows .now) (a .commits .now) (a .seen .now) (a .marks .now) (a .flags .now) (a .uses .now) (start .pre .1 .1 .1 .1 .0) (start .pre .1 .1 .1 .1 .1 .0)
+          (past (a .low) (a .used) (a .entries) (a .j) (a .rows .now) (a .commits .now) (a .seen .now) (a .marks .now) (a .flags .now) (a .uses .now)
+          (start .pre .1 .1 .1 .1 .0) (start .pre .1 .1 .1 .1 .1 .0)
           seen (now .marks) (now .flags) (now .uses))
           (loop .i) h (loop .inv .0) (met (c .before)),
     )
@@ -167,11 +188,13 @@ returns-3 c =
     let loop = c .before .loop in
     let pre = start .pre .1 .1 .1 .1 in (
       λ e.
-          marks-done (a .low) (a .used) (a .entries) (a .rows .now) (a .commits .now) (a .j) (pre .1 .0) (a .marks .now) (pre .1 .1 .1 .0) (pre .0) (a .seen .now) (a .flags .now) (a .uses .now) (pre .1 .1 .1 .1)
+          marks-done (a .low) (a .used) (a .entries) (a .rows .now) (a .commits .now) (a .j) (pre .1 .0) (a .marks .now) (pre .1 .1 .1 .0) (pre .0)
+          (a .seen .now) (a .flags .now) (a .uses .now) (pre .1 .1 .1 .1)
           (loop .seen) (loop .marks) (loop .flags) (loop .uses) (loop .i) (c .loop-test .left) (loop .inv .1 .0) (loop .inv .1 .1),
       (
         λ e.
-            done-more (a .low) (a .used) (a .entries) (a .rows .now) (a .commits .now) (a .j) (pre .1 .0) (a .marks .now) (pre .1 .1 .1 .0) (pre .0) (a .seen .now) (a .flags .now) (a .uses .now) (pre .1 .1 .1 .1)
+            done-more (a .low) (a .used) (a .entries) (a .rows .now) (a .commits .now) (a .j) (pre .1 .0) (a .marks .now) (pre .1 .1 .1 .0) (pre .0)
+            (a .seen .now) (a .flags .now) (a .uses .now) (pre .1 .1 .1 .1)
             (loop .seen) (loop .marks) (loop .flags) (loop .uses) (loop .i) (c .loop-test .left) (loop .inv .1 .0) (loop .inv .1 .1),
         λ e. absurd (differ refl e),
       ),
@@ -181,8 +204,10 @@ pub serve-spec : {M : Type 1} → statement M
 serve-spec =
     tie.close
     (tie.spec
-    Inv-loop μ-loop (λ c κs. omega (arith, c .before .before .pre)) (λ c. search needs) (λ c. search needs) (λ c. search needs) (λ c. search needs) cast-i loop-holds (λ c κs. search needs)
-    (λ c. search needs) returns (λ c. search needs) (λ c. search needs) returns-2 (λ c. search needs) (λ c. search needs) (λ c. search needs) (λ c. search needs)
+    Inv-loop μ-loop (λ c κs. omega (arith, c .before .before .pre)) (λ c. search needs) (λ c. search needs) (λ c. search needs)
+    (λ c. search needs) cast-i loop-holds (λ c κs. search needs)
+    (λ c. search needs) returns (λ c. search needs) (λ c. search needs) returns-2 (λ c. search needs) (λ c. search needs) (λ c. search needs)
+    (λ c. search needs)
     (λ c. search needs) (λ c. search needs) (λ c. search needs) (λ c. search needs) (λ c. search needs) (λ c. search needs)
     (λ c. omega (arith, rises (c .before .before .before .before .before .before .before)))
     (λ c. omega (arith, rises (c .before .before .before .before .before .before .before))) loop-again returns-3)

@@ -25,8 +25,23 @@ serve-requires c κs =
     let positive = c .before .before .before .before .loop-test .taken in
     let z : loop .j - 1 + 1 ≡ loop .j = omega (arith, positive) in
     let marked : Marks (a .low) (a .used) (a .entries) (a .rows .now) (a .commits .now) (loop .j - 1 + 1) (loop .marks) = rw z (loop .inv .1) in
-    let known : SoFar (a .low) (a .used) (a .entries) (a .rows .now) (a .commits .now) (loop .j - 1 + 1) (loop .seen) (loop .flags) (loop .uses) = rw z (loop .inv .2) in
-    (pre .0, (pre .1 .0, (pre .1 .1 .0, (pre .1 .1 .1 .0, (pre .1 .1 .1 .1 .0, (omega (arith, loop .inv .0, positive), (pre .1 .1 .1 .1 .1 .0, (marked, known))))))))
+    let known : SoFar (a .low) (a .used) (a .entries) (a .rows .now) (a .commits .now) (loop .j - 1 + 1) (loop .seen) (loop .flags)
+    (loop .uses) = rw z (loop .inv .2) in (
+      pre .0,
+      (
+        pre .1 .0,
+        (
+          pre .1 .1 .0,
+          (
+            pre .1 .1 .1 .0,
+            (
+              pre .1 .1 .1 .1 .0,
+              (omega (arith, loop .inv .0, positive), (pre .1 .1 .1 .1 .1 .0, (marked, known))),
+            ),
+          ),
+        ),
+      ),
+    )
 
 loop-again : tie.Need-loop-again Inv-loop μ-loop
 loop-again c =
@@ -44,4 +59,5 @@ returns-2 c =
     (λ e. rw (← z) (loop .inv .1), (λ e. rw (← z) (loop .inv .2), λ e. absurd (differ refl e)))
 
 pub serve-all-spec : {M : Type 1} → statement M
-serve-all-spec = tie.close (tie.spec Inv-loop μ-loop (λ c. search needs) (λ c. search needs) serve-requires (λ c. search needs) (λ c. search needs) loop-again returns returns-2)
+serve-all-spec = tie.close (tie.spec Inv-loop μ-loop (λ c. search needs) (λ c. search needs) serve-requires (λ c. search needs)
+    (λ c. search needs) loop-again returns returns-2)

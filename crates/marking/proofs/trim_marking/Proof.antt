@@ -33,4 +33,5 @@ pub trim-marking-spec : {M : Type 1} → statement M
 trim-marking-spec =
     tie.close
     (tie.spec
-    from-newest-requires (λ c κs. search needs) (λ c κs. search needs) (λ c. search needs) (λ c. search needs) returns (λ c κs. search needs) (λ c. search needs) (λ c. search needs) returns-2)
+    from-newest-requires (λ c κs. search needs) (λ c κs. search needs) (λ c. search needs) (λ c. search needs) returns (λ c κs. search needs)
+    (λ c. search needs) (λ c. search needs) returns-2)
