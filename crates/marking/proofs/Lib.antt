@@ -1,10 +1,5 @@
 pub mod Accord
-pub mod Nexts
-pub mod Order
-pub mod Chains
-pub mod Walks
-pub mod Entries
-pub mod Open
+pub mod Later
 pub mod Stamps
 pub mod Serving
 pub mod Marking

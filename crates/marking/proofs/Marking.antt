@@ -17,12 +17,15 @@ use Rattle.search.specs.Share.{any}
 use Rattle.search.proofs.Folds.{if-same, if-itself, any-step, any-end, any-at, commit-none, tag-yes, tag-no, to-start}
 use Rattle.removal.specs.Kept.{Flags}
 use Rattle.trimming.specs.Trim.{overtaken, stays, inUse, trimmedRows}
-use Rattle.marking.specs.Chains.{rowEntry, RowEntries}
-use Rattle.marking.specs.Served.{commits, orderlyCommits, orderlyRows, serves, served, Marks}
-use Rattle.marking.specs.SoFar.{Plain, Judged, Used, SoFar, Flagged}
-use Rattle.marking.proofs.Order.{differ, both-ways, some-in, alone, stays-served, plain-more, plain-end}
-use Rattle.marking.proofs.Walks.{tag-miss, tag-here}
-use Rattle.marking.proofs.Entries.{entry-next, entry-tag}
+use Rattle.orderly.specs.Chains.{rowEntry, RowEntries}
+use Rattle.orderly.specs.Orderly.{commits, orderlyCommits, orderlyRows}
+use Rattle.marking.specs.Served.{serves, served, Marks}
+use Rattle.orderly.specs.Plain.{Plain}
+use Rattle.marking.specs.SoFar.{Judged, Used, SoFar, Flagged}
+use Rattle.orderly.proofs.Order.{differ, both-ways, some-in, alone, plain-more, plain-end}
+use Rattle.marking.proofs.Later.{stays-served}
+use Rattle.orderly.proofs.Walks.{tag-miss, tag-here}
+use Rattle.orderly.proofs.Entries.{entry-next, entry-tag}
 use Rattle.marking.proofs.Stamps.{Stamped, stamped-plain}
 use Rattle.marking.proofs.Serving.{due, judge, lasting, Serving, serving-marks, serving-flags, serving-use}
 

@@ -15,9 +15,9 @@ use Rattle.rows.specs.Rows.{rowAt, rowsIn, rowsFrom, tagOf, cellOf}
 use Rattle.search.specs.Look.{isOwn}
 use Rattle.search.specs.Share.{wrote}
 use Rattle.search.proofs.Folds.{own-yes}
-use Rattle.marking.specs.Served.{orderlyRows}
-use Rattle.marking.specs.SoFar.{Plain}
-use Rattle.marking.proofs.Order.{differ, if-left, if-right, some-from, from-at, displain, plain-twice}
+use Rattle.orderly.specs.Orderly.{orderlyRows}
+use Rattle.orderly.specs.Plain.{Plain}
+use Rattle.orderly.proofs.Order.{differ, if-left, if-right, some-from, from-at, displain, plain-twice}
 
 -- Rows before i are done: the cells of those with the tag are below 1,024 and differ, and exactly they are stamped. seen₀ is what was stamped before.
 pub record Stamped (tag mark n : ℕ) (s seen₀ seen : List ℕ) (i : ℕ) : Type 0 where

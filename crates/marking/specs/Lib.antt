@@ -1,3 +1,2 @@
-pub mod Chains
 pub mod Served
 pub mod SoFar

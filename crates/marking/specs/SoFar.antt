@@ -2,26 +2,16 @@
 -- Assumes nothing.
 use Prim.Native.Nat.{ℕ, _+_, _≤_, _<_}
 use mathlib.Core.Path.{_≡_}
-use mathlib.Core.Bool.{Bool, true, false}
 use mathlib.Core.List.{List}
 use lib.ListN.{length, getD}
 use Rattle.sets.specs.Choice.{if_then_else_}
-use Rattle.rows.specs.Rows.{rowAt, rowsIn, rowsFrom, tagOf, cellOf}
-use Rattle.search.specs.Share.{any, wrote}
+use Rattle.rows.specs.Rows.{rowAt, rowsIn, rowsFrom, tagOf}
+use Rattle.search.specs.Share.{any}
 use Rattle.removal.specs.Kept.{Flags}
 use Rattle.trimming.specs.Trim.{stays, inUse, trimmedRows}
-use Rattle.marking.specs.Chains.{rowEntry}
-use Rattle.marking.specs.Served.{commits, orderlyRows}
-
--- a data row of a cell below 1,024 that no later row of its tag has too
-pub record Plain (n : ℕ) (s : List ℕ) (k : ℕ) : Type 0 where
-  pub small : cellOf (rowAt 24 k s) < 1024
-  pub alone : wrote (rowsFrom 24 n (k + 1) s) (tagOf (rowAt 24 k s)) (cellOf (rowAt 24 k s)) ≡ false
-
--- What the test of the rows that are not committed says; entry has m for them. They are plain, or not all rows of s are orderly.
-pub record OpenTest (n m : ℕ) (s entry : List ℕ) (r : Bool) : Type 0 where
-  pub plain : r ≡ true → (k : ℕ) → k < n → getD entry k 0 ≡ m → Plain n s k
-  pub not-plain : r ≡ false → orderlyRows (rowsIn 24 n s) ≡ false
+use Rattle.orderly.specs.Chains.{rowEntry}
+use Rattle.orderly.specs.Plain.{Plain}
+use Rattle.orderly.specs.Orderly.{commits}
 
 -- the data rows' flags after committed row j: those of rows committed by row j or a later one are right, all others are 1
 pub record Judged (low n m : ℕ) (s c : List ℕ) (j : ℕ) (flags : List ℕ) : Type 0 where

@@ -7,11 +7,12 @@ use borrow.Author.Tests.{not-true, not-false}
 use native.Mathlib.Omega.{arith}
 use Rattle.rows.specs.Rows.{rowsIn}
 use Rattle.search.specs.Passes.{Next}
-use Rattle.marking.specs.Chains.{rowEntry}
-use Rattle.marking.specs.Served.{orderlyCommits, orderlyRows, Marks}
+use Rattle.orderly.specs.Chains.{rowEntry}
+use Rattle.orderly.specs.Orderly.{orderlyCommits, orderlyRows}
+use Rattle.marking.specs.Served.{Marks}
 use Rattle.marking.specs.SoFar.{SoFar}
-use Rattle.marking.proofs.Order.{differ, disorder-commits, disorder-rows, decided}
-use Rattle.marking.proofs.Entries.{entries-alike, entries-open}
+use Rattle.orderly.proofs.Order.{differ, disorder-commits, disorder-rows, decided}
+use Rattle.orderly.proofs.Entries.{entries-alike, entries-open}
 use Rattle.marking.proofs.Marking.{marks-start, done-start, done-end, all-plain}
 use Rattle.marking.proofs.from_newest.Statement.{statement}
 use Rattle.marking.proofs.from_newest.Tie as tie

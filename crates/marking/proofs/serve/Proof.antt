@@ -10,11 +10,11 @@ use borrow.Author.Needs.{needs}
 use borrow.Author.Tests.{le-leb, lt-leb}
 use native.Mathlib.Omega.{arith}
 use Rattle.rows.specs.Rows.{rowAt, rowsIn, tagOf, cellOf, commitTag, commitNumber}
-use Rattle.marking.specs.Chains.{rowEntry, Chain}
-use Rattle.marking.specs.Served.{orderlyCommits}
-use Rattle.marking.proofs.Chains.{chain-start, chain-more, chain-rises, chain-carry, head-carry}
-use Rattle.marking.proofs.Order.{differ, displain, plain-large}
-use Rattle.marking.proofs.Entries.{entry-tag, entry-of-tag}
+use Rattle.orderly.specs.Chains.{rowEntry, Chain}
+use Rattle.orderly.specs.Orderly.{orderlyCommits}
+use Rattle.orderly.proofs.Chains.{chain-start, chain-more, chain-rises, chain-carry, head-carry}
+use Rattle.orderly.proofs.Order.{differ, displain, plain-large}
+use Rattle.orderly.proofs.Entries.{entry-tag, entry-of-tag}
 use Rattle.marking.proofs.Stamps.{Stamped, stamped-start, stamped-other, stamped-more, stamped-twice}
 use Rattle.marking.proofs.Serving.{Serving, serving-start, serving-other, serving-served, serving-mark, serving-idle}
 use Rattle.marking.proofs.Marking.{marks-done, done-more}

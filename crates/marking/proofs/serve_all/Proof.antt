@@ -5,7 +5,7 @@ use borrow.Author.Needs.{needs}
 use native.Mathlib.Omega.{arith}
 use Rattle.marking.specs.Served.{Marks}
 use Rattle.marking.specs.SoFar.{SoFar}
-use Rattle.marking.proofs.Order.{differ}
+use Rattle.orderly.proofs.Order.{differ}
 use Rattle.marking.proofs.serve_all.Statement.{statement}
 use Rattle.marking.proofs.serve_all.Tie as tie
 

@@ -1,7 +1,7 @@
 -- By flags that were both set before, or the old way, where the bytes are not orderly.
 use mathlib.Core.Path.{refl, sym, _∙_}
 use borrow.Author.Needs.{needs}
-use Rattle.marking.proofs.Order.{differ}
+use Rattle.orderly.proofs.Order.{differ}
 use Rattle.marking.proofs.Trimmed.{trimmed-kept}
 use Rattle.marking.proofs.trim_marking.Statement.{statement}
 use Rattle.marking.proofs.trim_marking.Tie as tie

@@ -1,0 +1,7 @@
+pub mod Accord
+pub mod Nexts
+pub mod Order
+pub mod Chains
+pub mod Walks
+pub mod Entries
+pub mod Open

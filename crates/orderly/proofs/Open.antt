@@ -1,0 +1,101 @@
+-- Rows of transactions that are not committed. They alone are linked, by tag and cell: a row of another place is of another tag or cell, since rows
+-- of one tag are committed together.
+-- Assumes nothing.
+use Prim.Native.Nat.{ℕ, _+_, _≤_, _<_}
+use mathlib.Core.Path.{_≡_, sym, _∙_}
+use mathlib.Core.Bool.{Bool, true, false}
+use mathlib.Core.List.{List}
+use lib.ListN.{length, getD, replicate}
+use native.Mathlib.Decide.{ℕ-discrete}
+use native.Mathlib.Omega.{arith}
+use borrow.Author.Tests.{eq-eqb, ne-eqb}
+use Rattle.rows.specs.Rows.{rowAt, rowsIn, rowsFrom, tagOf, cellOf}
+use Rattle.search.specs.Share.{wrote}
+use Rattle.trimming.specs.Places.{place}
+use Rattle.orderly.specs.Chains.{pairPlace, openPlace, Linked, Alike, PairWalk}
+use Rattle.orderly.specs.Orderly.{orderlyRows}
+use Rattle.orderly.specs.Plain.{Plain}
+use Rattle.orderly.proofs.Chains.{linked-none, linked-less, chain-start, head-skip}
+use Rattle.orderly.proofs.Walks.{own-miss}
+use Rattle.orderly.proofs.Order.{displain, plain-large, plain-twice}
+
+-- from row i on the rows that are not committed are plain, and linked
+pub record Tested (n m : ℕ) (s entry heads nexts : List ℕ) (i : ℕ) : Type 0 where
+  pub end : i ≤ n
+  pub linked : Linked (openPlace m entry s) n i heads nexts
+  pub plain : (k : ℕ) → i ≤ k → k < n → getD entry k 0 ≡ m → Plain n s k
+
+-- row k is not committed; its tag, its cell and its place are these
+pub record OpenRow (n m : ℕ) (s entry : List ℕ) (k tag cell x : ℕ) : Type 0 where
+  pub alike : Alike n s entry
+  pub uncommitted : getD entry k 0 ≡ m
+  pub tag-is : tag ≡ tagOf (rowAt 24 k s)
+  pub cell-is : cell ≡ cellOf (rowAt 24 k s)
+  pub place-is : x ≡ pairPlace (place tag) cell
+  pub small : x < 4096
+
+module _ (n m : ℕ) (s entry : List ℕ) where
+  pub tested-none : (nexts : List ℕ) → length nexts ≡ 1024 → Tested n m s entry (replicate 4096 n) nexts n
+  tested-none nexts e = record { end = omega arith; linked = linked-none (openPlace m entry s) n nexts e; plain = λ k a b. absurd (omega arith) }
+
+  -- the place of a row that is not committed
+  open-place : (k : ℕ) → getD entry k 0 ≡ m → openPlace m entry s k ≡ pairPlace (place (tagOf (rowAt 24 k s))) (cellOf (rowAt 24 k s))
+  open-place k e = rw (eq-eqb (getD entry k 0) m e)
+
+  no-place : (k : ℕ) → (getD entry k 0 ≡ m → ⊥) → 4096 ≤ openPlace m entry s k
+  no-place k ne = rw (ne-eqb (getD entry k 0) m ne) (omega arith)
+
+  module _ (heads nexts : List ℕ) (k : ℕ) (t : Tested n m s entry heads nexts (k + 1)) where
+    plain-too : (getD entry k 0 ≡ m → Plain n s k) → (j : ℕ) → k ≤ j → j < n → getD entry j 0 ≡ m → Plain n s j
+    plain-too p j a b e = go (ℕ-discrete j k)
+      where
+        go : Dec (j ≡ k) → Plain n s j
+        go (yes q) = rw q (p (rw q at e))
+        go (no q) = t .plain j (omega (arith, q)) b e
+
+    -- a committed row
+    pub tested-past : (getD entry k 0 ≡ m → ⊥) → Tested n m s entry heads nexts k
+    tested-past ne =
+        record {
+          end = omega (arith, t .end);
+          linked = linked-less (openPlace m entry s) n heads nexts k (no-place k ne) (t .linked);
+          plain = plain-too (λ e. absurd (ne e));
+        }
+
+    pub tested-more : (heads′ nexts′ : List ℕ) → Linked (openPlace m entry s) n k heads′ nexts′ → Plain n s k → Tested n m s entry heads′ nexts′ k
+    tested-more heads′ nexts′ l p = record { end = omega (arith, t .end); linked = l; plain = plain-too (λ e. p) }
+
+    pub tested-large : 1024 ≤ cellOf (rowAt 24 k s) → orderlyRows (rowsIn 24 n s) ≡ false
+    tested-large b = displain n s k (omega (arith, t .end)) (plain-large n s k (omega (arith, t .end)) b)
+
+    module _ (tag cell x : ℕ) (row : OpenRow n m s entry k tag cell x) where
+      pub open-at : openPlace m entry s k ≡ x
+      open-at = open-place k (row .uncommitted) ∙ rw (← row .tag-is, ← row .cell-is) (sym (row .place-is))
+
+      meets : (j : ℕ) → j < n → (openPlace m entry s j ≡ x → ⊥) → tagOf (rowAt 24 j s) ≡ tag → cellOf (rowAt 24 j s) ≡ cell → ⊥
+      meets j l ne a b =
+          ne (open-place j (row .alike .each j k l (omega (arith, t .end)) (a ∙ row .tag-is) ∙ row .uncommitted) ∙ rw (a, b) (sym (row .place-is)))
+
+      pub open-walk : PairWalk n s nexts tag cell (getD heads x 0)
+      open-walk =
+          record {
+            key = openPlace m entry s;
+            at = x;
+            chain = chain-start (openPlace m entry s) n nexts heads x (k + 1) (row .small) (t .linked);
+            meets = meets;
+          }
+
+      -- what the walk says
+      module _ (b : Bool) (again : b ≡ wrote (rowsFrom 24 n (getD heads x 0) s) tag cell) where
+        twice : wrote (rowsFrom 24 n (k + 1) s) (tagOf (rowAt 24 k s)) (cellOf (rowAt 24 k s)) ≡ b
+        twice =
+            rw (← row .tag-is, ← row .cell-is)
+            (head-skip (openPlace m entry s) n (λ i. wrote (rowsFrom 24 n i s) tag cell) heads nexts x (k + 1) (row .small) (t .linked)
+            (λ j l ne. own-miss tag cell n j s l (meets j l ne))
+            ∙ sym again)
+
+        pub tested-twice : b ≡ true → orderlyRows (rowsIn 24 n s) ≡ false
+        tested-twice q = displain n s k (omega (arith, t .end)) (plain-twice n s k (omega (arith, t .end)) (twice ∙ q))
+
+        pub open-alone : cell < 1024 → b ≡ false → Plain n s k
+        open-alone c q = record { small = rw (← row .cell-is) c; alone = twice ∙ q }

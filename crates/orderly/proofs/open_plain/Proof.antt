@@ -1,0 +1,144 @@
+-- From row i on the rows that are not committed are plain, and linked by tag and cell; the chain of a row's place meets every later row of its tag
+-- and cell.
+use Prim.Native.Nat.{ℕ, _+_, _-_}
+use mathlib.Core.Path.{_≡_, refl, ap, _∙_}
+use borrow.Author.Needs.{needs}
+use native.Mathlib.Omega.{arith}
+use lib.ListN.{getD}
+use Rattle.orderly.specs.Chains.{pairPlace, openPlace, PairWalk}
+use Rattle.orderly.proofs.Order.{differ}
+use Rattle.orderly.proofs.Open.{Tested, OpenRow, tested-none, tested-past, tested-more, tested-large, tested-twice}
+use Rattle.orderly.proofs.Open.{open-at, open-walk, open-alone}
+use Rattle.orderly.proofs.open_plain.Statement.{statement}
+use Rattle.orderly.proofs.open_plain.Tie as tie
+
+abbrev Inv-loop : tie.InvT-loop
+Inv-loop rows used entries entry none heads₀ nexts₀ i₀ heads nexts i = Tested used entries rows entry heads nexts i
+
+abbrev μ-loop : tie.MeasureT-loop
+μ-loop rows used entries entry none heads₀ nexts₀ i₀ heads nexts i = i
+
+loop-holds : tie.Need-loop-holds Inv-loop μ-loop
+loop-holds c =
+    let a = c .before .args in
+    tested-none (a .used) (a .entries) (a .rows .now) (a .entry .now) _ (search needs)
+
+-- the rows behind row k
+tested : (c : tie.In-loop Inv-loop μ-loop)
+    → Tested (c .before .before .before .args .used) (c .before .before .before .args .entries) (c .before .before .before .args .rows .now)
+    (c .before .before .before .args .entry .now) (c .before .loop .heads) (c .before .loop .nexts) (c .before .loop .i - 1 + 1)
+tested c =
+    let z : c .before .loop .i - 1 + 1 ≡ c .before .loop .i = omega (arith, c .loop-test .taken) in
+    rw z (c .before .loop .inv)
+
+cast-at : tie.Need-cast-at Inv-loop μ-loop
+cast-at c =
+    let loop = c .before .before .loop in
+    omega (arith, c .before .before .before .before .pre .1 .1 .below (loop .i - 1) (omega (arith, loop .inv .end, c .before .loop-test .taken)))
+
+returns : tie.Need-returns Inv-loop μ-loop
+returns c =
+    let a = c .before .before .before .before .before .before .before .args in
+    let loop = c .before .before .before .before .before .loop in
+    record {
+      plain = λ e. absurd (differ e refl);
+      not-plain = λ e.
+          tested-large (a .used) (a .entries) (a .rows .now) (a .entry .now) (loop .heads) (loop .nexts) (loop .i - 1)
+          (tested (c .before .before .before .before)) (omega (arith, c .before .cell-at .ensures, c .if2 .taken));
+    }
+
+-- row k, which is not committed
+row : (c : tie.After-pair-place Inv-loop μ-loop)
+    → OpenRow (c .before .before .before .before .before .before .before .before .before .before .args .used)
+    (c .before .before .before .before .before .before .before .before .before .before .args .entries)
+    (c .before .before .before .before .before .before .before .before .before .before .args .rows .now)
+    (c .before .before .before .before .before .before .before .before .before .before .args .entry .now)
+    (c .before .before .before .before .before .before .before .before .loop .i - 1)
+    (c .before .before .tag-at .result) (c .before .before .before .before .cell-at .result) (c .pair-place .result)
+row c =
+    let cell = c .before .before .before .before .cell-at in
+    record {
+      alike = c .before .before .before .before .before .before .before .before .before .before .pre .1 .1;
+      uncommitted = c .before .before .before .before .before .if1 .taken;
+      tag-is = c .before .before .tag-at .ensures;
+      cell-is = cell .ensures;
+      place-is = c .pair-place .ensures .0 ∙ ap (λ (x : ℕ). pairPlace x (cell .result)) (c .before .place-of .ensures .0);
+      small = c .pair-place .ensures .1;
+    }
+
+-- the chain of its place
+walk : (c : tie.After-pair-place Inv-loop μ-loop)
+    → PairWalk (c .before .before .before .before .before .before .before .before .before .before .args .used)
+    (c .before .before .before .before .before .before .before .before .before .before .args .rows .now)
+    (c .before .before .before .before .before .before .before .before .loop .nexts)
+    (c .before .before .tag-at .result) (c .before .before .before .before .cell-at .result)
+    (getD (c .before .before .before .before .before .before .before .before .loop .heads) (c .pair-place .result) 0)
+walk c =
+    let a = c .before .before .before .before .before .before .before .before .before .before .args in
+    let loop = c .before .before .before .before .before .before .before .before .loop in
+    open-walk (a .used) (a .entries) (a .rows .now) (a .entry .now) (loop .heads) (loop .nexts) (loop .i - 1)
+    (tested (c .before .before .before .before .before .before .before))
+    (c .before .before .tag-at .result) (c .before .before .before .before .cell-at .result) (c .pair-place .result) (row c)
+
+cast-own-chained : tie.Need-cast-own-chained Inv-loop μ-loop
+cast-own-chained c = omega (arith, walk (c .before) .chain .end)
+
+own-chained-requires : tie.Need-own-chained-requires Inv-loop μ-loop
+own-chained-requires c κs =
+    let start = c .before .before .before .before .before .before .before .before .before .before .before in
+    let loop = c .before .before .before .before .before .before .before .before .before .loop in
+    (start .pre .0, (start .pre .1 .0, (loop .inv .linked .room, walk (c .before))))
+
+returns-2 : tie.Need-returns-2 Inv-loop μ-loop
+returns-2 c =
+    let a = c .before .before .before .before .before .before .before .before .before .before .before .before .before .args in
+    let loop = c .before .before .before .before .before .before .before .before .before .before .before .loop in
+    let pair = c .before .before .before in
+    let t = tested (c .before .before .before .before .before .before .before .before .before .before) in
+    record {
+      plain = λ e. absurd (differ e refl);
+      not-plain = λ e.
+          tested-twice (a .used) (a .entries) (a .rows .now) (a .entry .now) (loop .heads) (loop .nexts) (loop .i - 1) t
+          (pair .before .before .tag-at .result) (pair .before .before .before .before .cell-at .result) (pair .pair-place .result) (row pair)
+          (c .before .own-chained .result) (c .before .own-chained .ensures) (c .if3 .taken);
+    }
+
+link-requires : tie.Need-link-requires Inv-loop μ-loop
+link-requires c κs =
+    let start = c .before .before .before .before .before .before .before .before .before .before .before .before .before .before .before in
+    let loop = c .before .before .before .before .before .before .before .before .before .before .before .before .before .loop in
+    let pair = c .before .before .before .before .before .pair-place in
+    (pair .ensures .1, (omega (arith, loop .inv .end, start .pre .1 .0), (loop .inv .linked .size, loop .inv .linked .room)))
+
+loop-again : tie.Need-loop-again Inv-loop μ-loop
+loop-again c =
+    let a = c .before .before .before .before .before .before .before .before .before .before .before .before .before .before .before .before .args in
+    let inside = c .before .before .before .before .before .before .before .before .before .before .before .before .before in
+    let loop = inside .before .loop in
+    let pair = c .before .before .before .before .before .before in
+    let own = c .before .before .before .before .own-chained in
+    let tag = pair .before .before .tag-at .result in
+    let cell = pair .before .before .before .before .cell-at .result in
+    let x = pair .pair-place .result in
+    let t = tested inside in
+    tested-more (a .used) (a .entries) (a .rows .now) (a .entry .now) (loop .heads) (loop .nexts) (loop .i - 1) t (c .link .last .0) (c .link .last .1 .0)
+    (c .link .ensures .one (openPlace (a .entries) (a .entry .now) (a .rows .now)) (a .used) (omega (arith, t .end))
+    (open-at (a .used) (a .entries) (a .rows .now) (a .entry .now) (loop .heads) (loop .nexts) (loop .i - 1) t tag cell x (row pair)) (t .linked))
+    (open-alone (a .used) (a .entries) (a .rows .now) (a .entry .now) (loop .heads) (loop .nexts) (loop .i - 1) t tag cell x (row pair)
+    (own .result) (own .ensures) (pair .before .before .before .if2 .left) (c .before .before .before .if3 .left))
+
+loop-again-2 : tie.Need-loop-again-2 Inv-loop μ-loop
+loop-again-2 c =
+    let a = c .before .before .before .before .before .args in
+    let loop = c .before .before .before .loop in
+    tested-past (a .used) (a .entries) (a .rows .now) (a .entry .now) (loop .heads) (loop .nexts) (loop .i - 1) (tested (c .before .before)) (c .if1 .left)
+
+returns-3 : tie.Need-returns-3 Inv-loop μ-loop
+returns-3 c = record { plain = λ e k. c .before .loop .inv .plain k (omega (arith, c .loop-test .left)); not-plain = λ e. absurd (differ refl e) }
+
+pub open-plain-spec : {M : Type 1} → statement M
+open-plain-spec =
+    tie.close
+    (tie.spec Inv-loop μ-loop (λ c. search needs) loop-holds (λ c. search needs) (λ c. search needs) (λ c. search needs) cast-at
+    (λ c κs. search needs) returns (λ c κs. search needs) (λ c κs. search needs) (λ c κs. c .place-of .ensures .1) (λ c. search needs) (λ c. search needs)
+    cast-own-chained own-chained-requires returns-2 link-requires (λ c. search needs) loop-again (λ c. search needs) loop-again-2 returns-3)
