@@ -6,11 +6,12 @@ use mathlib.Core.Path.{_≡_, sym, _∙_}
 use mathlib.Core.Bool.{Bool, true, false}
 use mathlib.Core.List.{List}
 use lib.ListN.{length, getD, replicate}
-use native.Mathlib.Decide.{ℕ-discrete}
+use native.Mathlib.Decide.{decLt, ℕ-discrete}
 use native.Mathlib.Omega.{arith}
 use borrow.Author.Tests.{eq-eqb, ne-eqb}
 use Rattle.rows.specs.Rows.{rowAt, rowsIn, rowsFrom, tagOf, cellOf}
 use Rattle.search.specs.Share.{wrote}
+use Rattle.search.specs.Passes.{Next}
 use Rattle.trimming.specs.Places.{place}
 use Rattle.orderly.specs.Chains.{pairPlace, openPlace, Linked, Alike, PairWalk}
 use Rattle.orderly.specs.Orderly.{orderlyRows}
@@ -37,6 +38,15 @@ pub record OpenRow (n m : ℕ) (s entry : List ℕ) (k tag cell x : ℕ) : Type 
 module _ (n m : ℕ) (s entry : List ℕ) where
   pub tested-none : (nexts : List ℕ) → length nexts ≡ 1024 → Tested n m s entry (replicate 4096 n) nexts n
   tested-none nexts e = record { end = omega arith; linked = linked-none (openPlace m entry s) n nexts e; plain = λ k a b. absurd (omega arith) }
+
+  -- all are tested from the first one on
+  pub tested-all : (heads nexts : List ℕ) (i first : ℕ) → i ≤ first → Tested n m s entry heads nexts i → Next (λ k. getD entry k 0 ≡ m) 0 n first
+      → (k : ℕ) → k < n → getD entry k 0 ≡ m → Plain n s k
+  tested-all heads nexts i first l t p k h e = go (decLt k first)
+    where
+      go : Dec (k < first) → Plain n s k
+      go (yes b) = absurd (p .misses k (omega arith) b e)
+      go (no b) = t .plain k (omega (arith, b)) h e
 
   -- the place of a row that is not committed
   open-place : (k : ℕ) → getD entry k 0 ≡ m → openPlace m entry s k ≡ pairPlace (place (tagOf (rowAt 24 k s))) (cellOf (rowAt 24 k s))

@@ -7,7 +7,7 @@ use mathlib.Core.List.{List}
 use lib.Dec.{ltb, leb}
 use native.Mathlib.Omega.{arith}
 use native.Mathlib.Decide.{decLt}
-use borrow.Author.Tests.{ltb-true, leb-false, eqb-true, le-leb, lt-leb, eq-eqb}
+use borrow.Author.Tests.{ltb-true, eqb-true, le-leb, lt-leb, eq-eqb}
 use Rattle.sets.specs.Choice.{if_then_else_}
 use Rattle.rows.specs.Rows.{Row, rowAt, rowsIn, rowsFrom, tagOf, cellOf, commitTag, commitNumber}
 use Rattle.rows.proofs.Rows.{rows-start, rows-step, rows-end}

@@ -201,18 +201,19 @@ fn own_chained(
 }
 
 // Whether all rows that are not committed have cells below 1,024, and none that its tag has again. entry has the committed row of each row,
-// entries for none.
-fn open_plain(rows: &[u8], used: usize, entries: usize, entry: &[u16; 1024]) -> bool
+// entries for none; first is the first row with none.
+fn open_plain(rows: &[u8], used: usize, entries: usize, entry: &[u16; 1024], first: usize) -> bool
     requires { ⌜ 24 * used ≤ length (now rows) ⌝ }
     requires { ⌜ used ≤ 1024 ⌝ }
     requires { ⌜ Alike used (now rows) (now entry) ⌝ }
+    requires { ⌜ Next (λ k. getD (now entry) k 0 ≡ entries) 0 used first ⌝ }
     ensures { λ r. ⌜ OpenTest used entries (now (rows .entry)) (now (entry .entry)) r ⌝ }
 {
     let none = used as u16;
     let mut heads = [none; 4096];
     let mut nexts = [0u16; 1024];
     let mut i = used;
-    while 0 < i {
+    while first < i {
         let k = i - 1;
         let at = entry[k] as usize;
         if at == entries {
@@ -233,7 +234,7 @@ fn open_plain(rows: &[u8], used: usize, entries: usize, entry: &[u16; 1024]) -> 
     true
 }
 
-// The same, where first is the first row that is not committed, used where there is none.
+// The same, where first is used if there is none; nothing is looked at then.
 pub fn open_plain_from(
     rows: &[u8],
     used: usize,
@@ -248,7 +249,7 @@ pub fn open_plain_from(
     ensures { λ r. ⌜ OpenTest used entries (now (rows .entry)) (now (entry .entry)) r ⌝ }
 {
     if first < used {
-        return open_plain(rows, used, entries, entry);
+        return open_plain(rows, used, entries, entry, first);
     }
     true
 }

@@ -7,16 +7,16 @@ use native.Mathlib.Omega.{arith}
 use lib.ListN.{getD}
 use Rattle.orderly.specs.Chains.{pairPlace, openPlace, PairWalk}
 use Rattle.orderly.proofs.Order.{differ}
-use Rattle.orderly.proofs.Open.{Tested, OpenRow, tested-none, tested-past, tested-more, tested-large, tested-twice}
+use Rattle.orderly.proofs.Open.{Tested, OpenRow, tested-none, tested-all, tested-past, tested-more, tested-large, tested-twice}
 use Rattle.orderly.proofs.Open.{open-at, open-walk, open-alone}
 use Rattle.orderly.proofs.open_plain.Statement.{statement}
 use Rattle.orderly.proofs.open_plain.Tie as tie
 
 abbrev Inv-loop : tie.InvT-loop
-Inv-loop rows used entries entry none heads₀ nexts₀ i₀ heads nexts i = Tested used entries rows entry heads nexts i
+Inv-loop rows used entries entry first none heads₀ nexts₀ i₀ heads nexts i = Tested used entries rows entry heads nexts i
 
 abbrev μ-loop : tie.MeasureT-loop
-μ-loop rows used entries entry none heads₀ nexts₀ i₀ heads nexts i = i
+μ-loop rows used entries entry first none heads₀ nexts₀ i₀ heads nexts i = i
 
 loop-holds : tie.Need-loop-holds Inv-loop μ-loop
 loop-holds c =
@@ -34,7 +34,7 @@ tested c =
 cast-at : tie.Need-cast-at Inv-loop μ-loop
 cast-at c =
     let loop = c .before .before .loop in
-    omega (arith, c .before .before .before .before .pre .1 .1 .below (loop .i - 1) (omega (arith, loop .inv .end, c .before .loop-test .taken)))
+    omega (arith, c .before .before .before .before .pre .1 .1 .0 .below (loop .i - 1) (omega (arith, loop .inv .end, c .before .loop-test .taken)))
 
 returns : tie.Need-returns Inv-loop μ-loop
 returns c =
@@ -58,7 +58,7 @@ row : (c : tie.After-pair-place Inv-loop μ-loop)
 row c =
     let cell = c .before .before .before .before .cell-at in
     record {
-      alike = c .before .before .before .before .before .before .before .before .before .before .pre .1 .1;
+      alike = c .before .before .before .before .before .before .before .before .before .before .pre .1 .1 .0;
       uncommitted = c .before .before .before .before .before .if1 .taken;
       tag-is = c .before .before .tag-at .ensures;
       cell-is = cell .ensures;
@@ -134,7 +134,16 @@ loop-again-2 c =
     tested-past (a .used) (a .entries) (a .rows .now) (a .entry .now) (loop .heads) (loop .nexts) (loop .i - 1) (tested (c .before .before)) (c .if1 .left)
 
 returns-3 : tie.Need-returns-3 Inv-loop μ-loop
-returns-3 c = record { plain = λ e k. c .before .loop .inv .plain k (omega (arith, c .loop-test .left)); not-plain = λ e. absurd (differ refl e) }
+returns-3 c =
+    let start = c .before .before .before in
+    let a = start .args in
+    let loop = c .before .loop in
+    record {
+      plain = λ e.
+          tested-all (a .used) (a .entries) (a .rows .now) (a .entry .now) (loop .heads) (loop .nexts) (loop .i) (a .first) (c .loop-test .left) (loop .inv)
+          (start .pre .1 .1 .1);
+      not-plain = λ e. absurd (differ refl e);
+    }
 
 pub open-plain-spec : {M : Type 1} → statement M
 open-plain-spec =
