@@ -21,7 +21,7 @@ use Rattle.orderly.specs.Chains.{rowEntry, RowEntries}
 use Rattle.orderly.specs.Orderly.{commits, orderlyCommits, orderlyRows}
 use Rattle.marking.specs.Served.{serves, served, Marks}
 use Rattle.orderly.specs.Plain.{Plain}
-use Rattle.marking.specs.SoFar.{Judged, Used, SoFar, Flagged}
+use Rattle.marking.specs.SoFar.{Judged, Used, SoFar}
 use Rattle.orderly.proofs.Order.{differ, both-ways, some-in, alone, plain-more, plain-end}
 use Rattle.marking.proofs.Later.{stays-served}
 use Rattle.orderly.proofs.Walks.{tag-miss, tag-here}
@@ -143,25 +143,22 @@ module _ (low n m : ℕ) (s c : List ℕ) where
         each = λ k a g. absurd (omega arith);
       }
 
-  pub done-start : n ≤ 1024 → m ≤ 1024 → SoFar low n m s c m (replicate 1024 0) (replicate 1024 1) (replicate 1024 0)
-  done-start b d =
+  pub plain-start : SoFar n m s c m (replicate 1024 0)
+  plain-start =
       record {
         room = length-replicate {A = ℕ} 1024 0;
         fresh = λ x k h l e. omega (arith, sym (getD-replicate {A = ℕ} 1024 x 0 0 h) ∙ e);
         plain = λ k l a g. absurd (omega arith);
-        judged = judged-start b;
-        used = used-start d;
       }
 
-  pub done-end : (seen flags uses : List ℕ) → SoFar low n m s c 0 seen flags uses → Flagged low n m s c flags uses
-  done-end seen flags uses d =
-      record { rows = judged-end flags (d .judged); entries = record { size = d .used .size; each = λ k h. d .used .each k (omega arith) h } }
+  pub used-end : (uses : List ℕ) → Used low n m s c 0 uses → Flags (inUse (trimmedRows low (rowsIn 24 n s) (rowsIn 8 m c))) 8 m c uses
+  used-end uses u = record { size = u .size; each = λ k h. u .each k (omega arith) h }
 
   -- every row is plain: those of committed transactions, and the others
-  pub all-plain : (seen flags uses entry : List ℕ) → SoFar low n m s c 0 seen flags uses → RowEntries n m s c entry →
+  pub all-plain : (seen entry : List ℕ) → SoFar n m s c 0 seen → RowEntries n m s c entry →
       ((k : ℕ) → k < n → getD entry k 0 ≡ m → Plain n s k)
       → orderlyRows (rowsIn 24 n s) ≡ true
-  all-plain seen flags uses entry d t rest =
+  all-plain seen entry d t rest =
       rw (rows-start 24 n s)
       (to-start (λ i. orderlyRows (rowsFrom 24 n i s) ≡ true) n (plain-end n s) (λ i h e. plain-more n s i h (plain i h .small) (plain i h .alone) e))
     where
@@ -257,7 +254,7 @@ module _ (low n m : ℕ) (s c : List ℕ) where
             each k a b (yes z) = rw (z, in-use) (here ∙ rw (u .before j (omega arith)))
             each k a b (no z) = others k z ∙ u .each k (omega (arith, a, z)) b
 
-      module _ (ordered : orderlyCommits (rowsIn 8 m c) ≡ true) (seen₀ flags₀ uses₀ : List ℕ) (d : SoFar low n m s c (j + 1) seen₀ flags₀ uses₀)
+      module _ (ordered : orderlyCommits (rowsIn 8 m c) ≡ true) (seen₀ flags₀ uses₀ : List ℕ) (d : SoFar n m s c (j + 1) seen₀)
           (seen marks flags uses : List ℕ) (i : ℕ) (e : n ≤ i)
           (sv : Serving (leb (commitNumber (rowAt 8 j c)) low) own (j + 1) n j s marks₀ flags₀ uses₀ marks flags uses i)
           (st : Stamped own (j + 1) n s seen₀ seen i) where
@@ -269,18 +266,22 @@ module _ (low n m : ℕ) (s c : List ℕ) where
         plain : (k : ℕ) → k < n → tagOf (rowAt 24 k s) ≡ own → Plain n s k
         plain = stamped-plain own (j + 1) n s seen₀ seen i e st
 
-        pub done-more : SoFar low n m s c j seen flags uses
-        done-more =
+        pub judged-done : Judged low n m s c (j + 1) flags₀ → Judged low n m s c j flags
+        judged-done g′ =
+            judged-more ordered (λ k l t. plain k l t .small) flags₀ flags g′ (sv .flags-size)
+            (serving-flags (leb (commitNumber (rowAt 8 j c)) low) own (j + 1) n j s marks₀ flags₀ uses₀ marks flags uses i e sv)
+
+        pub used-done : Used low n m s c (j + 1) uses₀ → Used low n m s c j uses
+        used-done u =
+            used-more ordered (λ k l t. plain k l t .small) uses₀ uses u (sv .uses-size)
+            (serving-use (leb (commitNumber (rowAt 8 j c)) low) own (j + 1) n j s marks₀ flags₀ uses₀ marks flags uses i e sv) (sv .others)
+
+        pub plain-done : SoFar n m s c j seen
+        plain-done =
             record {
               room = st .room;
               fresh = λ x k l b q. d .fresh x k l (omega arith) (st .kept x (k + 1) l (λ z. omega arith) q);
               plain = λ k l a b. rest k l a b (ℕ-discrete (rowEntry m c s k) j);
-              judged =
-                  judged-more ordered (λ k l t. plain k l t .small) flags₀ flags (d .judged) (sv .flags-size)
-                  (serving-flags (leb (commitNumber (rowAt 8 j c)) low) own (j + 1) n j s marks₀ flags₀ uses₀ marks flags uses i e sv);
-              used =
-                  used-more ordered (λ k l t. plain k l t .small) uses₀ uses (d .used) (sv .uses-size)
-                  (serving-use (leb (commitNumber (rowAt 8 j c)) low) own (j + 1) n j s marks₀ flags₀ uses₀ marks flags uses i e sv) (sv .others);
             }
           where
             rest : (k : ℕ) → k < n → j ≤ rowEntry m c s k → rowEntry m c s k < m → Dec (rowEntry m c s k ≡ j) → Plain n s k

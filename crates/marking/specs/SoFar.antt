@@ -7,7 +7,6 @@ use lib.ListN.{length, getD}
 use Rattle.sets.specs.Choice.{if_then_else_}
 use Rattle.rows.specs.Rows.{rowAt, rowsIn, rowsFrom, tagOf}
 use Rattle.search.specs.Share.{any}
-use Rattle.removal.specs.Kept.{Flags}
 use Rattle.trimming.specs.Trim.{stays, inUse, trimmedRows}
 use Rattle.orderly.specs.Chains.{rowEntry}
 use Rattle.orderly.specs.Plain.{Plain}
@@ -25,15 +24,9 @@ pub record Used (low n m : ℕ) (s c : List ℕ) (j : ℕ) (uses : List ℕ) : T
   pub before : (k : ℕ) → k < j → getD uses k 0 ≡ 0
   pub each : (k : ℕ) → j ≤ k → k < m → getD uses k 0 ≡ (if inUse (trimmedRows low (rowsIn 24 n s) (rowsIn 8 m c)) (rowAt 8 k c) then 1 else 0)
 
--- All of this after committed row j. `seen` has, of each cell, one more than the number of the last row that wrote it and is done, 0 for none.
-pub record SoFar (low n m : ℕ) (s c : List ℕ) (j : ℕ) (seen flags uses : List ℕ) : Type 0 where
+-- The rows that are done after committed row j are plain. `seen` has, of each cell, one more than the number of the last of them that wrote it, 0 for
+-- none.
+pub record SoFar (n m : ℕ) (s c : List ℕ) (j : ℕ) (seen : List ℕ) : Type 0 where
   pub room : length seen ≡ 1024
   pub fresh : (x k : ℕ) → x < 1024 → k < j → getD seen x 0 ≡ k + 1 → ⊥
   pub plain : (k : ℕ) → k < n → j ≤ rowEntry m c s k → rowEntry m c s k < m → Plain n s k
-  pub judged : Judged low n m s c j flags
-  pub used : Used low n m s c j uses
-
--- the rows that stay, by their flags
-pub record Flagged (low n m : ℕ) (s c flags uses : List ℕ) : Type 0 where
-  pub rows : Flags (stays low (rowsIn 24 n s) (rowsIn 8 m c)) 24 n s flags
-  pub entries : Flags (inUse (trimmedRows low (rowsIn 24 n s) (rowsIn 8 m c))) 8 m c uses

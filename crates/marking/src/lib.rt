@@ -1,5 +1,5 @@
-// Trim from the newest (document 02, ticket 4): orderly bytes are worked from the last committed row to the first, marking the cells that are
-// served; all others the old way, by trimming::trim. The rows that go are removed by removal::close_up.
+// Trim from the newest (document 02, ticket 4): orderly bytes are worked from the last committed row to the first, marking the cells that
+// are served; all others the old way, by trimming::trim. The rows that go are removed by removal::close_up.
 ghost use mathlib.Core.Path.{_≡_};
 ghost use mathlib.Core.Bool.{true, false};
 ghost use Prim.Native.Nat.{_+_, _*_, _≤_, _<_};
@@ -7,15 +7,15 @@ ghost use lib.ListN.{length, replicate};
 ghost use Rattle.rows.specs.Rows.{rowsIn};
 ghost use Rattle.trimming.specs.Trimmed.{Trimmed};
 ghost use Rattle.orderly.specs.Orderly.{orderlyCommits, orderlyRows, orderly};
-ghost use Rattle.orderly.specs.Chains.{rowEntry, Linked};
+ghost use Rattle.orderly.specs.Chains.{RowsLinked};
 ghost use Rattle.marking.specs.Served.{Marks, Worked};
-ghost use Rattle.marking.specs.SoFar.{SoFar, Flagged};
+ghost use Rattle.marking.specs.SoFar.{SoFar, Judged, Used};
 use trimming::Remaining;
 
 // ---- from the newest: see specs/Served.antt
 
-// Committed row j, where the rows behind it are done. Its data rows of cells that are marked already go, and its other cells are marked with
-// j + 1; a row numbered above low marks nothing. False where it comes to a cell above 1,023 or to a cell that the transaction has twice.
+// Committed row j, where the rows behind it are done. Its data rows of cells that are marked already go, and its other cells are marked
+// with j + 1; a row numbered above low marks nothing. False where it comes to a cell above 1,023 or to one that the transaction has twice.
 fn serve(
     rows: &[u8],
     used: usize,
@@ -36,11 +36,15 @@ fn serve(
     requires { ⌜ entries ≤ 1024 ⌝ }
     requires { ⌜ orderlyCommits (rowsIn 8 entries (now commits)) ≡ true ⌝ }
     requires { ⌜ j < entries ⌝ }
-    requires { ⌜ Linked (rowEntry entries (now commits) (now rows)) used 0 (now firsts) (now follows) ⌝ }
+    requires { ⌜ RowsLinked used entries (now rows) (now commits) (now firsts) (now follows) ⌝ }
     requires { ⌜ Marks low used entries (now rows) (now commits) (j + 1) (now marks) ⌝ }
-    requires { ⌜ SoFar low used entries (now rows) (now commits) (j + 1) (now seen) (now flags) (now uses) ⌝ }
+    requires { ⌜ SoFar used entries (now rows) (now commits) (j + 1) (now seen) ⌝ }
+    requires { ⌜ Judged low used entries (now rows) (now commits) (j + 1) (now flags) ⌝ }
+    requires { ⌜ Used low used entries (now rows) (now commits) (j + 1) (now uses) ⌝ }
     ensures { λ r. ⌜ (r ≡ true → Marks low used entries (now (rows .entry)) (now (commits .entry)) j (now (marks .exit))) ⌝ }
-    ensures { λ r. ⌜ (r ≡ true → SoFar low used entries (now (rows .entry)) (now (commits .entry)) j (now (seen .exit)) (now (flags .exit)) (now (uses .exit))) ⌝ }
+    ensures { λ r. ⌜ (r ≡ true → SoFar used entries (now (rows .entry)) (now (commits .entry)) j (now (seen .exit))) ⌝ }
+    ensures { λ r. ⌜ (r ≡ true → Judged low used entries (now (rows .entry)) (now (commits .entry)) j (now (flags .exit))) ⌝ }
+    ensures { λ r. ⌜ (r ≡ true → Used low used entries (now (rows .entry)) (now (commits .entry)) j (now (uses .exit))) ⌝ }
     ensures { λ r. ⌜ (r ≡ false → orderlyRows (rowsIn 24 used (now (rows .entry))) ≡ false) ⌝ }
 {
     let number = rows::commit_number_at(commits, j);
@@ -87,11 +91,15 @@ fn serve_all(
     requires { ⌜ 8 * entries ≤ length (now commits) ⌝ }
     requires { ⌜ entries ≤ 1024 ⌝ }
     requires { ⌜ orderlyCommits (rowsIn 8 entries (now commits)) ≡ true ⌝ }
-    requires { ⌜ Linked (rowEntry entries (now commits) (now rows)) used 0 (now firsts) (now follows) ⌝ }
+    requires { ⌜ RowsLinked used entries (now rows) (now commits) (now firsts) (now follows) ⌝ }
     requires { ⌜ Marks low used entries (now rows) (now commits) entries (now marks) ⌝ }
-    requires { ⌜ SoFar low used entries (now rows) (now commits) entries (now seen) (now flags) (now uses) ⌝ }
+    requires { ⌜ SoFar used entries (now rows) (now commits) entries (now seen) ⌝ }
+    requires { ⌜ Judged low used entries (now rows) (now commits) entries (now flags) ⌝ }
+    requires { ⌜ Used low used entries (now rows) (now commits) entries (now uses) ⌝ }
     ensures { λ r. ⌜ (r ≡ true → Marks low used entries (now (rows .entry)) (now (commits .entry)) 0 (now (marks .exit))) ⌝ }
-    ensures { λ r. ⌜ (r ≡ true → SoFar low used entries (now (rows .entry)) (now (commits .entry)) 0 (now (seen .exit)) (now (flags .exit)) (now (uses .exit))) ⌝ }
+    ensures { λ r. ⌜ (r ≡ true → SoFar used entries (now (rows .entry)) (now (commits .entry)) 0 (now (seen .exit))) ⌝ }
+    ensures { λ r. ⌜ (r ≡ true → Judged low used entries (now (rows .entry)) (now (commits .entry)) 0 (now (flags .exit))) ⌝ }
+    ensures { λ r. ⌜ (r ≡ true → Used low used entries (now (rows .entry)) (now (commits .entry)) 0 (now (uses .exit))) ⌝ }
     ensures { λ r. ⌜ (r ≡ false → orderlyRows (rowsIn 24 used (now (rows .entry))) ≡ false) ⌝ }
 {
     let mut j = entries;
@@ -118,7 +126,7 @@ fn serve_all(
     true
 }
 
-// The rows that stay, where the bytes are orderly: the committed rows are gone through from the last to the first. False where they are not.
+// The rows that stay, where the bytes are orderly (false where they are not): committed rows are gone through from the last to the first.
 // Marks and uses are all 0 before, flags all 1.
 fn from_newest(
     rows: &[u8],
@@ -139,7 +147,8 @@ fn from_newest(
     requires { ⌜ now uses ≡ replicate 1024 0 ⌝ }
     ensures { λ r. ⌜ r ≡ orderly (rowsIn 24 used (now (rows .entry))) (rowsIn 8 entries (now (commits .entry))) ⌝ }
     ensures { λ r. ⌜ (r ≡ true → Marks low used entries (now (rows .entry)) (now (commits .entry)) 0 (now (marks .exit))) ⌝ }
-    ensures { λ r. ⌜ (r ≡ true → Flagged low used entries (now (rows .entry)) (now (commits .entry)) (now (flags .exit)) (now (uses .exit))) ⌝ }
+    ensures { λ r. ⌜ (r ≡ true → Judged low used entries (now (rows .entry)) (now (commits .entry)) 0 (now (flags .exit))) ⌝ }
+    ensures { λ r. ⌜ (r ≡ true → Used low used entries (now (rows .entry)) (now (commits .entry)) 0 (now (uses .exit))) ⌝ }
 {
     let none = entries as u16;
     let mut heads = [none; 4096];
@@ -180,8 +189,8 @@ fn from_newest(
     )
 }
 
-// The trim. On orderly bytes marks, which are all 0 before, show in the end which cells were marked after each committed row; all other bytes
-// are worked the old way.
+// The trim. On orderly bytes marks, which are all 0 before, show in the end which cells were marked after each committed row; all other
+// bytes are worked the old way.
 fn trim_marking(
     rows: &mut [u8],
     used: usize,
@@ -220,7 +229,8 @@ fn trim_marking(
     trimming::trim(rows, used, commits, entries, low)
 }
 
-// Drops the data rows that newer ones up to low overtake, and then the committed rows with no data row left. Where no row is committed none goes.
+// Drops the data rows that newer ones up to low overtake, and then the committed rows with no data row left. Where no row is committed none
+// goes.
 pub fn trim(rows: &mut [u8], used: usize, commits: &mut [u8], entries: usize, low: u32) -> Remaining
     requires { ⌜ 24 * used ≤ length (now rows) ⌝ }
     requires { ⌜ used ≤ 1024 ⌝ }

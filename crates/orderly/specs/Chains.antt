@@ -44,6 +44,10 @@ entryOf tag (c ∷ cs) = if eqb (commitTag c) tag then 0 else suc (entryOf tag c
 abbrev pub rowEntry : ℕ → List ℕ → List ℕ → ℕ → ℕ
 rowEntry m c s k = entryOf (tagOf (rowAt 24 k s)) (rowsIn 8 m c)
 
+-- the data rows, all linked by their committed rows
+abbrev pub RowsLinked : ℕ → ℕ → List ℕ → List ℕ → List ℕ → List ℕ → Type 0
+RowsLinked n m s c firsts follows = Linked (rowEntry m c s) n 0 firsts follows
+
 -- the place of a tag and a cell together, by the tag's place
 unfoldable pub pairPlace : ℕ → ℕ → ℕ
 pairPlace x cell = (x + cell * 611) % 4096

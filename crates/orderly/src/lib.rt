@@ -1,5 +1,5 @@
-// Orderly bytes (document 02, ticket 4): the tests that come before a trim from the newest, and the chains of rows that are made on the way: the
-// committed row of a tag, and the data rows of a committed row.
+// Orderly bytes (document 02, ticket 4): the tests that come before a trim from the newest, and the chains of rows that are made on the
+// way: the committed row of a tag, and the data rows of a committed row.
 ghost use mathlib.Core.Path.{_≡_};
 ghost use mathlib.Core.Bool.{true};
 ghost use Prim.Native.Nat.{_*_, _≤_, _<_};
@@ -9,7 +9,7 @@ ghost use Rattle.search.specs.Share.{wrote};
 ghost use Rattle.search.specs.Passes.{Next};
 ghost use Rattle.trimming.specs.Places.{place};
 ghost use Rattle.orderly.specs.Orderly.{orderlyCommits};
-ghost use Rattle.orderly.specs.Chains.{tagPlace, entryOf, rowEntry, pairPlace, Linked, Links, Chain, RowEntries, Alike, PairWalk};
+ghost use Rattle.orderly.specs.Chains.{tagPlace, entryOf, RowsLinked, pairPlace, Linked, Links, Chain, RowEntries, Alike, PairWalk};
 ghost use Rattle.orderly.specs.Plain.{OpenTest};
 
 // ---- chains: from each place, the rows whose key has that place, in their order
@@ -60,8 +60,8 @@ fn chained_entry(
     entries
 }
 
-// Whether the commit numbers rise and no committed tag repeats. If so, the committed rows are linked by the places of their tags on the way; heads
-// are all entries before.
+// Whether the commit numbers rise and no committed tag repeats. If so, the committed rows are linked by the places of their tags on the
+// way; heads are all entries before.
 pub fn commits_orderly(
     commits: &[u8],
     entries: usize,
@@ -153,7 +153,7 @@ pub fn link_rows(
     requires { ⌜ now firsts ≡ replicate 4096 used ⌝ }
     requires { ⌜ length (now follows) ≡ 1024 ⌝ }
     ensures { λ r. ⌜ RowEntries used entries (now (rows .entry)) (now (commits .entry)) r ⌝ }
-    ensures { λ _. ⌜ Linked (rowEntry entries (now (commits .entry)) (now (rows .entry))) used 0 (now (firsts .exit)) (now (follows .exit)) ⌝ }
+    ensures { λ _. ⌜ RowsLinked used entries (now (rows .entry)) (now (commits .entry)) (now (firsts .exit)) (now (follows .exit)) ⌝ }
 {
     let mut entry = [0u16; 1024];
     let mut last = 0;

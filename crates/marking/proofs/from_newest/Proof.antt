@@ -1,7 +1,7 @@
 -- The bytes are orderly just if every test is passed; then all committed rows are gone through.
 use mathlib.Core.Path.{_≡_, refl, sym, _∙_}
 use mathlib.Core.Bool.{true, false}
-use lib.ListN.{getD, replicate}
+use lib.ListN.{getD}
 use borrow.Author.Needs.{needs}
 use borrow.Author.Tests.{not-true, not-false}
 use native.Mathlib.Omega.{arith}
@@ -10,10 +10,10 @@ use Rattle.search.specs.Passes.{Next}
 use Rattle.orderly.specs.Chains.{rowEntry}
 use Rattle.orderly.specs.Orderly.{orderlyCommits, orderlyRows}
 use Rattle.marking.specs.Served.{Marks}
-use Rattle.marking.specs.SoFar.{SoFar}
+use Rattle.marking.specs.SoFar.{Judged, Used}
 use Rattle.orderly.proofs.Order.{differ, disorder-commits, disorder-rows, decided}
 use Rattle.orderly.proofs.Entries.{entries-alike, entries-open}
-use Rattle.marking.proofs.Marking.{marks-start, done-start, done-end, all-plain}
+use Rattle.marking.proofs.Marking.{marks-start, plain-start, judged-start, used-start, all-plain}
 use Rattle.marking.proofs.from_newest.Statement.{statement}
 use Rattle.marking.proofs.from_newest.Tie as tie
 
@@ -23,7 +23,7 @@ returns c =
     let disorderly : orderlyCommits (rowsIn 8 (a .entries) (a .commits .now)) ≡ false = sym (c .before .commits-orderly .ensures .0) ∙ not-true
     (c .before .commits-orderly .result) (c .if1 .taken) in (
       sym (disorder-commits (rowsIn 24 (a .used) (a .rows .now)) (rowsIn 8 (a .entries) (a .commits .now)) disorderly),
-      (λ e. absurd (differ e refl), λ e. absurd (differ e refl)),
+      (λ e. absurd (differ e refl), (λ e. absurd (differ e refl), λ e. absurd (differ e refl))),
     )
 
 link-rows-requires : tie.Need-link-rows-requires
@@ -67,7 +67,7 @@ returns-2 c =
     let disorderly : orderlyRows (rowsIn 24 (a .used) (a .rows .now)) ≡ false = c .before .open-plain-from .ensures .not-plain
     (not-true (c .before .open-plain-from .result) (c .if2 .taken)) in (
       sym (disorder-rows (rowsIn 24 (a .used) (a .rows .now)) (rowsIn 8 (a .entries) (a .commits .now)) disorderly),
-      (λ e. absurd (differ e refl), λ e. absurd (differ e refl)),
+      (λ e. absurd (differ e refl), (λ e. absurd (differ e refl), λ e. absurd (differ e refl))),
     )
 
 -- the committed rows are orderly
@@ -86,10 +86,12 @@ serve-all-requires c κs =
     let pre = start .pre in
     let marked : Marks (a .low) (a .used) (a .entries) (a .rows .now) (a .commits .now) (a .entries) (a .marks .now) =
     rw (pre .1 .1 .1 .1 .0) (marks-start (a .low) (a .used) (a .entries) (a .rows .now) (a .commits .now)) in
-    let done : SoFar (a .low) (a .used) (a .entries) (a .rows .now) (a .commits .now) (a .entries) (replicate 1024 0) (a .flags .now) (a .uses .now) =
-    rw (pre .1 .1 .1 .1 .1 .0, pre .1 .1 .1 .1 .1 .1) (done-start (a .low) (a .used) (a .entries) (a .rows .now) (a .commits .now) (pre .1 .0)
-    (pre .1 .1 .1 .0)) in
-    (pre .0, (pre .1 .0, (pre .1 .1 .0, (pre .1 .1 .1 .0, (ordered at, (at .link-rows .ensures .1, (marked, done)))))))
+    let judged : Judged (a .low) (a .used) (a .entries) (a .rows .now) (a .commits .now) (a .entries) (a .flags .now) =
+    rw (pre .1 .1 .1 .1 .1 .0) (judged-start (a .low) (a .used) (a .entries) (a .rows .now) (a .commits .now) (pre .1 .0)) in
+    let in-use : Used (a .low) (a .used) (a .entries) (a .rows .now) (a .commits .now) (a .entries) (a .uses .now) =
+    rw (pre .1 .1 .1 .1 .1 .1) (used-start (a .low) (a .used) (a .entries) (a .rows .now) (a .commits .now) (pre .1 .1 .1 .0)) in
+    let plain = plain-start (a .low) (a .used) (a .entries) (a .rows .now) (a .commits .now) in
+    (pre .0, (pre .1 .0, (pre .1 .1 .0, (pre .1 .1 .1 .0, (ordered at, (at .link-rows .ensures .1, (marked, (plain, (judged, in-use)))))))))
 
 returns-3 : tie.Need-returns-3
 returns-3 c =
@@ -103,10 +105,10 @@ returns-3 c =
     let plain = tested .open-plain-from .ensures .plain (not-false (tested .open-plain-from .result)
     (c .before .before .before .before .before .before .before .if2 .left)) in
     let decision = decided (served .result) ds cs (ordered at)
-    (λ e. all-plain (a .low) (a .used) (a .entries) (a .rows .now) (a .commits .now) _ _ _ (at .link-rows .result) (served .ensures .1 .0 e)
+    (λ e. all-plain (a .low) (a .used) (a .entries) (a .rows .now) (a .commits .now) _ (at .link-rows .result) (served .ensures .1 .0 e)
     (at .link-rows .ensures .0) plain)
-    (served .ensures .1 .1) in
-    (decision, (served .ensures .0, λ e. done-end (a .low) (a .used) (a .entries) (a .rows .now) (a .commits .now) _ _ _ (served .ensures .1 .0 e)))
+    (served .ensures .1 .1 .1 .1) in
+    (decision, (served .ensures .0, (served .ensures .1 .1 .0, served .ensures .1 .1 .1 .0)))
 
 pub from-newest-spec : {M : Type 1} → statement M
 from-newest-spec =

@@ -2,7 +2,7 @@
 use Prim.Native.Nat.{ℕ, _+_, _-_, _≤_, _<_}
 use mathlib.Core.Path.{_≡_, refl}
 use mathlib.Core.Logic.{⊎-elim}
-use mathlib.Core.Bool.{Bool, true}
+use mathlib.Core.Bool.{Bool, true, false}
 use mathlib.Core.List.{List}
 use lib.ListN.{getD, set}
 use lib.Dec.{leb}
@@ -17,7 +17,7 @@ use Rattle.orderly.proofs.Order.{differ, displain, plain-large}
 use Rattle.orderly.proofs.Entries.{entry-tag, entry-of-tag}
 use Rattle.marking.proofs.Stamps.{Stamped, stamped-start, stamped-other, stamped-more, stamped-twice}
 use Rattle.marking.proofs.Serving.{Serving, serving-start, serving-other, serving-served, serving-mark, serving-idle}
-use Rattle.marking.proofs.Marking.{marks-done, done-more}
+use Rattle.marking.proofs.Marking.{marks-done, plain-done, judged-done, used-done}
 use Rattle.marking.proofs.serve.Statement.{statement}
 use Rattle.marking.proofs.serve.Tie as tie
 
@@ -45,6 +45,10 @@ module _ (low n m j : ℕ) (s c seen₀ marks₀ flags₀ uses₀ : List ℕ) (o
         stamped-other (commitTag (rowAt 8 j c)) (j + 1) n s seen₀ seen k (w .1) other,
       )
 
+-- where the answer is false nothing is promised of a true one
+nothing : {A B C D E : Type 0} → E → (false ≡ true → A) × ((false ≡ true → B) × ((false ≡ true → C) × ((false ≡ true → D) × E)))
+nothing e = (λ q. absurd (differ q refl), (λ q. absurd (differ q refl), (λ q. absurd (differ q refl), (λ q. absurd (differ q refl), e))))
+
 cast-i : tie.Need-cast-i Inv-loop μ-loop
 cast-i c =
     let start = c .before .before .before .before in
@@ -56,7 +60,7 @@ loop-holds c =
     let a = start .args in
     let pre = start .pre .1 .1 .1 .1 in
     let small : a .j < 4096 = omega (arith, pre .1 .0, start .pre .1 .1 .1 .0) in
-    let done = pre .1 .1 .1 .1 in (
+    let known = pre .1 .1 .1 .1 in (
       chain-start (rowEntry (a .entries) (a .commits .now) (a .rows .now)) (a .used) (a .follows .now) (a .firsts .now) (a .j) 0 small (pre .1 .1 .0),
       head-carry (rowEntry (a .entries) (a .commits .now) (a .rows .now)) (a .used)
           (λ i. Walked (a .low) (a .used) (a .entries) (a .j) (a .rows .now) (a .commits .now) (a .seen .now) (a .marks .now) (a .flags .now)
@@ -67,9 +71,9 @@ loop-holds c =
           (a .firsts .now) 0 small (pre .1 .1 .0) (
             serving-start (leb (commitNumber (rowAt 8 (a .j) (a .commits .now))) (a .low)) (commitTag (rowAt 8 (a .j) (a .commits .now))) (a .j + 1)
                 (a .used) (a .j) (a .rows .now) (a .marks .now) (a .flags .now) (a .uses .now)
-                (pre .1 .1 .1 .0 .size) (done .judged .size) (done .used .size),
-            stamped-start (commitTag (rowAt 8 (a .j) (a .commits .now))) (a .j + 1) (a .used) (a .rows .now) (a .seen .now) (done .room)
-                (λ x l q. done .fresh x (a .j) l (omega arith) q),
+                (pre .1 .1 .1 .0 .size) (known .1 .0 .size) (known .1 .1 .size),
+            stamped-start (commitTag (rowAt 8 (a .j) (a .commits .now))) (a .j + 1) (a .used) (a .rows .now) (a .seen .now) (known .0 .room)
+                (λ x l q. known .0 .fresh x (a .j) l (omega arith) q),
           ),
     )
 
@@ -78,14 +82,8 @@ returns c =
     let a = c .before .before .before .before .before .before .before .before .args in
     let loop = c .before .before .before .loop in
     let h = c .before .before .loop-test .taken in
-    let large : 1024 ≤ cellOf (rowAt 24 (loop .i) (a .rows .now)) = omega (arith, c .before .cell-at .ensures, c .if1 .taken) in (
-      λ e. absurd (differ e refl),
-      (
-        λ e. absurd (differ e refl),
-        λ e. displain (a .used) (a .rows .now) (loop .i) (omega arith)
-            (plain-large (a .used) (a .rows .now) (loop .i) h large),
-      ),
-    )
+    let large : 1024 ≤ cellOf (rowAt 24 (loop .i) (a .rows .now)) = omega (arith, c .before .cell-at .ensures, c .if1 .taken) in
+    nothing (λ e. displain (a .used) (a .rows .now) (loop .i) (omega arith) (plain-large (a .used) (a .rows .now) (loop .i) h large))
 
 -- the row that was met is the transaction's
 own : (c : tie.In-loop Inv-loop μ-loop)
@@ -111,16 +109,12 @@ returns-2 c =
     let a = c .before .before .before .before .before .before .before .before .before .before .args in
     let loop = c .before .before .before .before .before .loop in
     let inside = c .before .before .before .before in
-    let cell = c .before .before .before .cell-at in (
-      λ e. absurd (differ e refl),
-      (
-        λ e. absurd (differ e refl),
-        λ e.
-            stamped-twice (commitTag (rowAt 8 (a .j) (a .commits .now))) (a .j + 1) (a .used) (a .rows .now) (a .seen .now) (loop .seen) (loop .i)
-            (loop .inv .1 .1)
-            (own inside) (cell .result) (cell .ensures) (inside .loop-test .taken) (omega (arith, c .before .before .if1 .left)) (c .if2 .taken),
-      ),
-    )
+    let cell = c .before .before .before .cell-at in
+    nothing
+    (λ e.
+    stamped-twice (commitTag (rowAt 8 (a .j) (a .commits .now))) (a .j + 1) (a .used) (a .rows .now) (a .seen .now) (loop .seen) (loop .i)
+    (loop .inv .1 .1)
+    (own inside) (cell .result) (cell .ensures) (inside .loop-test .taken) (omega (arith, c .before .before .if1 .left)) (c .if2 .taken))
 
 -- the row that was met is done
 met : (c : tie.Joined3 Inv-loop μ-loop)
@@ -186,19 +180,24 @@ returns-3 c =
     let start = c .before .before .before .before .before .before in
     let a = start .args in
     let loop = c .before .loop in
-    let pre = start .pre .1 .1 .1 .1 in (
-      λ e.
-          marks-done (a .low) (a .used) (a .entries) (a .rows .now) (a .commits .now) (a .j) (pre .1 .0) (a .marks .now) (pre .1 .1 .1 .0) (pre .0)
-          (a .seen .now) (a .flags .now) (a .uses .now) (pre .1 .1 .1 .1)
-          (loop .seen) (loop .marks) (loop .flags) (loop .uses) (loop .i) (c .loop-test .left) (loop .inv .1 .0) (loop .inv .1 .1),
-      (
-        λ e.
-            done-more (a .low) (a .used) (a .entries) (a .rows .now) (a .commits .now) (a .j) (pre .1 .0) (a .marks .now) (pre .1 .1 .1 .0) (pre .0)
-            (a .seen .now) (a .flags .now) (a .uses .now) (pre .1 .1 .1 .1)
-            (loop .seen) (loop .marks) (loop .flags) (loop .uses) (loop .i) (c .loop-test .left) (loop .inv .1 .0) (loop .inv .1 .1),
-        λ e. absurd (differ refl e),
-      ),
-    )
+    let pre = start .pre .1 .1 .1 .1 in
+    let marked =
+    marks-done (a .low) (a .used) (a .entries) (a .rows .now) (a .commits .now) (a .j) (pre .1 .0) (a .marks .now) (pre .1 .1 .1 .0) (pre .0)
+    (a .seen .now) (a .flags .now) (a .uses .now) (pre .1 .1 .1 .1 .0)
+    (loop .seen) (loop .marks) (loop .flags) (loop .uses) (loop .i) (c .loop-test .left) (loop .inv .1 .0) (loop .inv .1 .1) in
+    let plain =
+    plain-done (a .low) (a .used) (a .entries) (a .rows .now) (a .commits .now) (a .j) (pre .1 .0) (a .marks .now) (pre .1 .1 .1 .0) (pre .0)
+    (a .seen .now) (a .flags .now) (a .uses .now) (pre .1 .1 .1 .1 .0)
+    (loop .seen) (loop .marks) (loop .flags) (loop .uses) (loop .i) (c .loop-test .left) (loop .inv .1 .0) (loop .inv .1 .1) in
+    let judged =
+    judged-done (a .low) (a .used) (a .entries) (a .rows .now) (a .commits .now) (a .j) (pre .1 .0) (a .marks .now) (pre .1 .1 .1 .0) (pre .0)
+    (a .seen .now) (a .flags .now) (a .uses .now) (pre .1 .1 .1 .1 .0)
+    (loop .seen) (loop .marks) (loop .flags) (loop .uses) (loop .i) (c .loop-test .left) (loop .inv .1 .0) (loop .inv .1 .1) (pre .1 .1 .1 .1 .1 .0) in
+    let used =
+    used-done (a .low) (a .used) (a .entries) (a .rows .now) (a .commits .now) (a .j) (pre .1 .0) (a .marks .now) (pre .1 .1 .1 .0) (pre .0)
+    (a .seen .now) (a .flags .now) (a .uses .now) (pre .1 .1 .1 .1 .0)
+    (loop .seen) (loop .marks) (loop .flags) (loop .uses) (loop .i) (c .loop-test .left) (loop .inv .1 .0) (loop .inv .1 .1) (pre .1 .1 .1 .1 .1 .1) in
+    (λ e. marked, (λ e. plain, (λ e. judged, (λ e. used, λ e. absurd (differ refl e)))))
 
 pub serve-spec : {M : Type 1} → statement M
 serve-spec =

@@ -2,6 +2,7 @@
 use mathlib.Core.Path.{refl, sym, _∙_}
 use borrow.Author.Needs.{needs}
 use Rattle.orderly.proofs.Order.{differ}
+use Rattle.marking.proofs.Marking.{judged-end, used-end}
 use Rattle.marking.proofs.Trimmed.{trimmed-kept}
 use Rattle.marking.proofs.trim_marking.Statement.{statement}
 use Rattle.marking.proofs.trim_marking.Tie as tie
@@ -19,7 +20,9 @@ returns c =
     let first = c .before .before .before .before .before .before .before .close-up in
     let second = c .before .before .close-up2 in (
       trimmed-kept (a .low) (a .used) (a .entries) (a .rows .now) (a .commits .now) _ _ (first .last .0) (second .last .0) (first .result) (second .result)
-          (newest .ensures .1 .1 orderly) (first .ensures) (second .ensures),
+          (judged-end (a .low) (a .used) (a .entries) (a .rows .now) (a .commits .now) _ (newest .ensures .1 .1 .0 orderly))
+          (used-end (a .low) (a .used) (a .entries) (a .rows .now) (a .commits .now) _ (newest .ensures .1 .1 .1 orderly))
+          (first .ensures) (second .ensures),
       record { from-newest = λ e. newest .ensures .1 .0 orderly },
     )
 
