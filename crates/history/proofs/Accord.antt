@@ -12,50 +12,14 @@ use native.Mathlib.Decide.{ℕ-discrete}
 use native.Mathlib.Omega.{arith}
 use borrow.Author.Tests.{ne-eqb}
 use lib.ListN.{replicate}
-use Rattle.sets.specs.Set.{clients, bit, member, insert, remove, size, collect, strike}
-use Rattle.rows.specs.Rows.{
-  valueOf,
-  spliced,
-  number,
-  bytesOf,
-  dataRow,
-  tagOf,
-  cellOf,
-  commitRow,
-  commitNumber,
-  commitTag,
-  rowAt,
-  rowsIn,
-  rowsFrom,
-  laid,
-  filter,
-  hasTag,
-}
-use Rattle.search.specs.Numbers.{lesser, smallest, above, upTo}
-use Rattle.search.specs.Look.{commitOf, isOwn, find, versionOf, newer, seenAt, newest, ownOr, lookFor, valueIn}
-use Rattle.search.specs.Share.{any, count, wrote, cellsOf, shares, clash, conflict}
+use Rattle.spec.specs.Set.{clients, bit, member, insert, remove, size, collect, strike}
+use Rattle.spec.specs.Rows.{valueOf, spliced, number, bytesOf, dataRow, tagOf, cellOf, commitRow, commitNumber, commitTag, rowAt, rowsIn, rowsFrom, laid, filter, hasTag}
+use Rattle.spec.specs.Numbers.{lesser, smallest, above, upTo}
+use Rattle.spec.specs.Look.{commitOf, isOwn, find, versionOf, newer, seenAt, newest, ownOr, lookFor}
+use Rattle.spec.specs.Share.{any, count, wrote, cellsOf, shares, clash, conflict}
 use Rattle.spec.specs.Image.{cleared, closed, empty}
 use Rattle.spec.specs.Calls.{begun, begin, read, replaced, added, write, removed, abandon}
-use Rattle.spec.specs.Steps.{
-  queued,
-  struck,
-  others,
-  goOn,
-  enter,
-  takeRequest,
-  listRequests,
-  looked,
-  lookRequests,
-  check,
-  takeCommit,
-  listCommits,
-  lookCommits,
-  addCommit,
-  leaveCommits,
-  leaveRequests,
-  finished,
-  advance,
-}
+use Rattle.spec.specs.Steps.{queued, struck, others, goOn, enter, takeRequest, listRequests, looked, lookRequests, check, takeCommit, listCommits, lookCommits, addCommit, leaveCommits, leaveRequests, finished, advance}
 use Rattle.spec.specs.declared.Progress.the-variants.{Conflict}
 use Rattle.spec.specs.Answers.{Answered}
 use Rattle.spec.specs.Bytes.{seen, storeOf, laidOut, known, fits, after, accepts, setUp}
@@ -150,7 +114,7 @@ unfolding
     flatten
     bit member insert remove size collect strike
     spliced number bytesOf dataRow tagOf cellOf commitRow commitNumber commitTag rowAt rowsIn rowsFrom laid filter hasTag
-    lesser smallest above upTo commitOf isOwn find versionOf newer seenAt newest ownOr lookFor valueIn valueOf
+    lesser smallest above upTo commitOf isOwn find versionOf newer seenAt newest ownOr lookFor valueOf
     any count wrote cellsOf shares clash conflict
     cleared closed empty begun begin read replaced added write removed abandon
     queued struck others goOn enter takeRequest listRequests looked lookRequests check takeCommit listCommits lookCommits addCommit

@@ -9,7 +9,7 @@ use native.Mathlib.Omega.{arith}
 use lib.ListN.{length}
 use Rattle.spec.specs.Image.{Image}
 use Rattle.spec.specs.Run.{Call}
-use Rattle.spec.proofs.Demand.{told-by}
+use Rattle.history.proofs.AllCalls.{told-by}
 use Rattle.history.specs.Rounds.{Below, AllBelow, serves}
 use Rattle.history.proofs.Grown.{next, client, Grown, grows}
 

@@ -17,7 +17,7 @@ use Rattle.spec.specs.Answers.{Answer, Answered, Refused}
 use Rattle.spec.specs.Run.{Call, Begin, Read, Write, Advance, Abandon, Trim, Free, Memory, memoryOf, takes}
 use Rattle.spec.specs.Table.{Value, Commit, Open, Table, put, withWrites, atStage, reaches, Told, tell}
 use Rattle.spec.specs.Right.{Bounds, Right, tells, RightRun}
-use Rattle.spec.proofs.Lists.{none-some, same-some}
+use Rattle.history.proofs.Lists.{none-some, same-some}
 use Rattle.history.specs.Afterwards.{afterRun}
 use Rattle.history.specs.Demand.{Spares, Undisturbed}
 use Rattle.history.proofs.Book.{either}

@@ -10,13 +10,13 @@ use mathlib.Core.List.{List, [], _∷_, _++_, List·Memᴰ·head as here}
 use mathlib.Core.Option.{Option, none, some}
 use borrow.Author.Tests.{eqb-true}
 use lib.Dec.{eqb}
-use Rattle.sets.specs.Choice.{if_then_else_}
+use Rattle.spec.specs.Choice.{if_then_else_}
 use Rattle.spec.specs.declared.Progress.the-variants.{Stage, Waiting, Conflict, Done}
 use Rattle.spec.specs.Answers.{Answer, Answered, Refused}
 use Rattle.spec.specs.Run.{Call, Begin, Read, Write, Advance, Abandon, Trim, Free, Memory}
 use Rattle.spec.specs.Table.{Value, Values, has, Commit, Open, Table, blank, orElse, commits, reaches, Told, tell}
 use Rattle.spec.specs.Right.{Bounds, lastNumber, RightProgress, Right, tells, RightRun}
-use Rattle.spec.proofs.Lists.{in-nil, in-left, in-right, append-case, in-one}
+use Rattle.history.proofs.Lists.{in-nil, in-left, in-right, append-case, in-one}
 use Rattle.history.specs.Afterwards.{tableAfter}
 use Rattle.history.specs.Demand.{Rising, Valued}
 

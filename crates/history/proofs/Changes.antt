@@ -12,84 +12,18 @@ use native.Mathlib.Decide.{ℕ-discrete}
 use native.Mathlib.Omega.{arith}
 use borrow.Author.Tests.{eqb-true, eq-eqb}
 use lib.Dec.{eqb}
-use Rattle.sets.specs.Choice.{if_then_else_}
-use Rattle.sets.specs.Set.{clients}
+use Rattle.spec.specs.Choice.{if_then_else_}
+use Rattle.spec.specs.Set.{clients}
 use Rattle.spec.specs.declared.Progress.{Progress}
 use Rattle.spec.specs.declared.Progress.the-variants.{Stage, Waiting, Conflict, Done}
 use Rattle.spec.specs.Answers.{Answer, Answered, Refused}
 use Rattle.spec.specs.Run.{Call, Begin, Read, Write, Advance, Abandon, Trim, Free}
 use Rattle.spec.specs.Table.{Told}
-use Rattle.spec.proofs.Lists.{ite-elim, same-some}
-use Rattle.spec.proofs.Tickets.{listing, look, count, clear-own, clear-fewer, listing-only, look-fewer}
-use Rattle.spec.proofs.Model.{
-  Client,
-  State,
-  DRow,
-  CRow,
-  Out,
-  out,
-  put,
-  same,
-  clearC,
-  clearBoth,
-  closed,
-  rph,
-  cph,
-  sharing?,
-  begun,
-  overwritten,
-  added,
-  removed,
-  leave,
-  takeR,
-  takeC,
-  listR,
-  listC,
-  lookR,
-  lookC,
-  checked,
-  committed,
-  trimmed,
-  figured,
-  move,
-  step-to,
-  atStage,
-  withRequest,
-  withCommit,
-  withRwait,
-  withCwait,
-}
-use Rattle.spec.proofs.Moves.{put-at, put-off, Tame, tame-same, tame-C, tame-both}
-use Rattle.spec.proofs.Took.{
-  Took,
-  no-begin,
-  no-read,
-  no-write,
-  no-advance,
-  no-abandon,
-  begins,
-  reads,
-  replaces,
-  adds,
-  at0,
-  ends0,
-  at1,
-  at2,
-  at3,
-  at4,
-  at5,
-  at6,
-  at7,
-  at8,
-  at9,
-  at10,
-  at11,
-  at12,
-  at13,
-  abandons,
-  trims,
-  frees,
-}
+use Rattle.history.proofs.Lists.{ite-elim, same-some}
+use Rattle.history.proofs.Tickets.{listing, look, count, clear-own, clear-fewer, listing-only, look-fewer}
+use Rattle.history.proofs.Model.{Client, State, DRow, CRow, Out, out, put, same, clearC, clearBoth, closed, rph, cph, sharing?, begun, overwritten, added, removed, leave, takeR, takeC, listR, listC, lookR, lookC, checked, committed, trimmed, figured, move, step-to, atStage, withRequest, withCommit, withRwait, withCwait}
+use Rattle.history.proofs.Moves.{put-at, put-off, Tame, tame-same, tame-C, tame-both}
+use Rattle.history.proofs.Took.{Took, no-begin, no-read, no-write, no-advance, no-abandon, begins, reads, replaces, adds, at0, ends0, at1, at2, at3, at4, at5, at6, at7, at8, at9, at10, at11, at12, at13, abandons, trims, frees}
 use Rattle.history.specs.Rounds.{named, Fate, StillOpen, Abandoned, advanced, abandoned, fateBy, over, advances, serves}
 use Rattle.history.proofs.Effects.{Effect, quiet, opens, closes, ups, after, Fork, Up}
 

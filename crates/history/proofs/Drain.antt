@@ -5,7 +5,7 @@
 -- If the way out from there takes `ex` rounds, the holder of the smallest number is gone after 4 + (1 + ex) rounds, and each further number needs
 -- 1 + ex more (`drains`): the four rounds are waited but once, since all do their first steps at the same time.
 -- Assumes nothing.
-use Prim.Native.Nat.{ℕ, zero, suc, _+_, _-_, _*_, _≤_, _<_}
+use Prim.Native.Nat.{ℕ, zero, suc, _+_, _*_, _≤_, _<_}
 use mathlib.Core.Path.{_≡_, refl, sym, _∙_}
 use mathlib.Core.Logic.{_≢_, _⊎_, inl, inr, by-cases, Dec·and}
 use mathlib.Core.Bool.{Bool, true}
@@ -13,9 +13,9 @@ use native.Mathlib.Decide.{ℕ-discrete, decLe, decLt}
 use native.Mathlib.Omega.{arith}
 use Rattle.spec.specs.Image.{Image}
 use Rattle.spec.specs.Run.{Call}
-use Rattle.spec.proofs.Sums.{sum, sum-has, sum-less, sum-ones, one, one-yes, one-no, one-most, one-if}
-use Rattle.spec.proofs.View.{view}
-use Rattle.spec.proofs.Demand.{told-by}
+use Rattle.history.proofs.Sums.{sum, sum-has, sum-less, sum-ones, one, one-yes, one-no, one-most, one-if}
+use Rattle.history.proofs.View.{view}
+use Rattle.history.proofs.AllCalls.{told-by}
 use Rattle.history.specs.Rounds.{serves}
 use Rattle.history.proofs.Effects.{Side, phaseOf, numberOf, listOf, Tick}
 use Rattle.history.proofs.Grown.{next, client, Grown, is-below}

@@ -10,12 +10,12 @@ use mathlib.Core.Bool.{Bool, true}
 use mathlib.Core.List.{List}
 use native.Mathlib.Decide.{ℕ-discrete, decLe}
 use native.Mathlib.Omega.{arith}
-use Rattle.sets.specs.Set.{clients}
+use Rattle.spec.specs.Set.{clients}
 use Rattle.spec.specs.Run.{Call, Begin}
-use Rattle.spec.proofs.Tickets.{clear-own}
-use Rattle.spec.proofs.Model.{Client, State, DRow, CRow, put, same, clearBoth, closed, newcomer, rphase, cphase, begun, leave}
-use Rattle.spec.proofs.Moves.{put-at, put-off, each, Tame, tame-same, tame-both}
-use Rattle.spec.proofs.Arms.{cph-in, cph-out}
+use Rattle.history.proofs.Tickets.{clear-own}
+use Rattle.history.proofs.Model.{Client, State, DRow, CRow, put, same, clearBoth, closed, newcomer, rphase, cphase, begun, leave}
+use Rattle.history.proofs.Moves.{put-at, put-off, each, Tame, tame-same, tame-both}
+use Rattle.history.proofs.Arms.{cph-in, cph-out}
 
 -- ---- a queue's view of the clients
 

@@ -10,9 +10,9 @@ use native.Mathlib.Decide.{ℕ-discrete}
 use native.Mathlib.Omega.{arith}
 use Rattle.spec.specs.Image.{Image}
 use Rattle.spec.specs.Run.{Call}
-use Rattle.spec.proofs.Model.{rphase}
-use Rattle.spec.proofs.View.{view}
-use Rattle.spec.proofs.Demand.{told-by}
+use Rattle.history.proofs.Model.{rphase}
+use Rattle.history.proofs.View.{view}
+use Rattle.history.proofs.AllCalls.{told-by}
 use Rattle.history.specs.Rounds.{AllBelow, Fate, StillOpen, Closed, Abandoned, fateBy, first, limit}
 use Rattle.history.proofs.Changes.{Remains, remains, goes-up, goes-out, stays-R, stays-C}
 use Rattle.history.proofs.Grown.{next, client, Grown, is-open, changed, does, gets, grows}

@@ -19,7 +19,7 @@ use Rattle.spec.specs.Answers.{Answer, Answered, Refused}
 use Rattle.spec.specs.Run.{Call, Begin, Advance, Memory}
 use Rattle.spec.specs.Table.{Commit, Open, Table, opens, tell}
 use Rattle.spec.specs.Right.{Bounds, lastNumber, Wrote, RightBegin, RightProgress, RightAdvance, RightRun}
-use Rattle.spec.proofs.Lists.{none-some, same-some}
+use Rattle.history.proofs.Lists.{none-some, same-some}
 use Rattle.history.specs.Demand.{Nowhere, Never, Enquiry}
 use Rattle.history.proofs.Between.{put-same, HoldsIn, Lasts, two-calls}
 

@@ -10,12 +10,12 @@ use native.Mathlib.Omega.{arith}
 use Rattle.spec.specs.Image.{Image}
 use Rattle.spec.specs.Run.{Call, perform}
 use Rattle.spec.specs.Right.{Bounds}
-use Rattle.spec.proofs.Model.{Client}
-use Rattle.spec.proofs.Plain.{Plain, plain}
-use Rattle.spec.proofs.View.{view, stage-at}
-use Rattle.spec.proofs.Invariant.{Inv}
-use Rattle.spec.proofs.Does.{seenAs}
-use Rattle.spec.proofs.Demand.{Good, took, good-next, told-by}
+use Rattle.history.proofs.Model.{Client}
+use Rattle.history.proofs.Plain.{Plain, plain}
+use Rattle.history.proofs.View.{view, stage-at}
+use Rattle.history.proofs.Invariant.{Inv}
+use Rattle.history.proofs.Does.{seenAs}
+use Rattle.history.proofs.AllCalls.{Good, took, good-next, told-by}
 use Rattle.history.specs.Rounds as calls
 use Rattle.history.specs.Rounds.{Below, serves}
 use Rattle.history.proofs.Effects.{requests, commits, Listed, Same, Effect}

@@ -17,8 +17,8 @@ use Rattle.spec.specs.Calls.{cells}
 use Rattle.spec.specs.Run.{Call, Begin, Read, Write, Advance, Abandon, Trim, Free, Memory}
 use Rattle.spec.specs.Table.{Value, Values, has, Open, Table, blank, unwritten, put, withClient, withWrites, atStage, opens, reaches, Told, tell}
 use Rattle.spec.specs.Right.{Bounds, WriteAllowed, Right, RightRun}
-use Rattle.spec.proofs.Lists.{none-some, same-some}
-use Rattle.spec.proofs.Counts.{valued-none, valued-same, valued-more}
+use Rattle.history.proofs.Lists.{none-some, same-some}
+use Rattle.history.proofs.Counts.{valued-none, valued-same, valued-more}
 use Rattle.history.specs.Afterwards.{tableAfter}
 use Rattle.history.specs.Demand.{Within, Capped}
 use Rattle.history.proofs.Book.{either, along}

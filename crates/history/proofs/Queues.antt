@@ -9,11 +9,11 @@ use mathlib.Core.Logic.{_≢_, inl, inr, by-cases, Dec·and}
 use mathlib.Core.Bool.{true}
 use native.Mathlib.Decide.{ℕ-discrete, decLe}
 use native.Mathlib.Omega.{arith}
-use Rattle.sets.specs.Set.{clients}
+use Rattle.spec.specs.Set.{clients}
 use Rattle.spec.specs.Image.{Image}
-use Rattle.spec.proofs.Tickets.{look, look-strikes, count, count-zero}
-use Rattle.spec.proofs.Model.{rphase, cphase}
-use Rattle.spec.proofs.View.{view}
+use Rattle.history.proofs.Tickets.{look, look-strikes, count, count-zero}
+use Rattle.history.proofs.Model.{rphase, cphase}
+use Rattle.history.proofs.View.{view}
 use Rattle.history.proofs.Effects.{Side, requests, commits, out-of-commits, phases}
 use Rattle.history.proofs.Changes.{goes-up, goes-out, stays-R, stays-C}
 use Rattle.history.proofs.Grown.{next, client, Grown, inv, at-most-13, does, gets, same-after}

@@ -14,7 +14,7 @@ use Rattle.spec.specs.Calls.{cells}
 use Rattle.spec.specs.Run.{Call, Read, Memory}
 use Rattle.spec.specs.Table.{Value, Commit, Open, Table, orElse, tell}
 use Rattle.spec.specs.Right.{Bounds, RightRead, RightRun}
-use Rattle.spec.proofs.Lists.{same-some}
+use Rattle.history.proofs.Lists.{same-some}
 use Rattle.history.specs.Demand.{GoesOn, Waits, Besides, Steady, Unbroken}
 use Rattle.history.proofs.Between.{put-other, HoldsIn, Lasts, two-calls}
 

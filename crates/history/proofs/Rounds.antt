@@ -3,50 +3,32 @@
 -- Assumes nothing.
 use Prim.Native.Nat.{ℕ, zero, suc, _-_, _/_, _≤_, _<_}
 use mathlib.Core.Path.{_≡_, refl, sym, _∙_, ap, subst}
-use mathlib.Core.Logic.{_≢_, by-cases}
+use mathlib.Core.Logic.{by-cases}
 use mathlib.Core.Bool.{Bool, true, false, _||_, or-true, false≢true}
 use mathlib.Core.List.{List, [], _∷_, _++_, flatten}
-use mathlib.Core.Option.{some}
 use native.Mathlib.Decide.{ℕ-discrete}
 use native.Mathlib.Omega.{arith}
 use borrow.Author.Tests.{eq-eqb}
 use lib.ListN.{length}
-use Rattle.sets.specs.Set.{clients}
+use Rattle.spec.specs.Set.{clients}
 use Rattle.spec.specs.Answers.{Answer}
 use Rattle.spec.specs.Image.{Image, empty}
 use Rattle.spec.specs.Bytes.{limitOf, accepts, setUp}
 use Rattle.spec.specs.Run.{Call, Advance, Memory, memoryOf, takes}
 use Rattle.spec.specs.Table.{Open, Table, blank, Told, tell}
 use Rattle.spec.specs.Right.{Bounds, tells}
-use Rattle.spec.proofs.Lists.{none-some, same-some}
+use Rattle.history.proofs.Lists.{none-some, same-some}
 use Rattle.spec.proofs.Ends.{accepted}
-use Rattle.spec.proofs.Bridge.{whole, set-up-whole, unused, refused-memory, refused-call}
-use Rattle.spec.proofs.Bridge as bridge
-use Rattle.spec.proofs.Model as m
-use Rattle.spec.proofs.Model.{State}
-use Rattle.spec.proofs.Plain as own
-use Rattle.spec.proofs.Walk.{empty-view}
-use Rattle.spec.proofs.Erase.{erase, erase-empty, openOf, live-some, some-live}
-use Rattle.spec.proofs.Demand.{told-by, same-told, same-memory, fed, start-good, refused-tells}
+use Rattle.history.proofs.Bridge.{whole, set-up-whole, unused, refused-memory, refused-call}
+use Rattle.history.proofs.Bridge as bridge
+use Rattle.history.proofs.Model as m
+use Rattle.history.proofs.Model.{State}
+use Rattle.history.proofs.Plain as own
+use Rattle.history.proofs.Walk.{empty-view}
+use Rattle.history.proofs.Erase.{erase, erase-empty, openOf, live-some, some-live}
+use Rattle.history.proofs.AllCalls.{told-by, same-told, same-memory, fed, start-good, refused-tells}
 use Rattle.history.specs.Afterwards.{afterRun, tableAfter}
-use Rattle.history.specs.Rounds.{
-  AllBelow,
-  over,
-  fateBy,
-  first,
-  fate,
-  Queued,
-  serves,
-  served,
-  Round,
-  Rounds,
-  limit,
-  ClosedWithin,
-  NobodyWaits,
-  WhoeverCalls,
-  inTurn,
-  RoundsExist,
-}
+use Rattle.history.specs.Rounds.{AllBelow, over, fateBy, first, fate, Queued, serves, served, Round, Rounds, limit, ClosedWithin, NobodyWaits, WhoeverCalls, inTurn, RoundsExist}
 use Rattle.history.proofs.Effects.{Listed, requests, commits}
 use Rattle.history.proofs.Grown.{next, client, Grown, inv, is-open, is-below, at-most-13, grows, grows-table}
 use Rattle.history.proofs.AfterRounds.{run, runs, meets, AllRounds, AllNamed}

@@ -9,8 +9,8 @@ use Rattle.spec.specs.Bytes.{setUp}
 use Rattle.spec.specs.Run.{Call, memoryOf}
 use Rattle.spec.specs.Table.{blank}
 use Rattle.spec.specs.Right.{Bounds, boundsOf}
-use Rattle.spec.proofs.Refusals.{all-listed}
-use Rattle.spec.proofs.Demand.{demand3, all-unfit, all-fit}
+use Rattle.history.proofs.Refusals.{all-listed}
+use Rattle.history.proofs.AllCalls.{demand3, all-unfit, all-fit}
 use Rattle.history.specs.Demand.{Demand3}
 use Rattle.history.proofs.Book.{rising-run, valued-run}
 use Rattle.history.proofs.Repeats.{steady-run, unbroken-run}

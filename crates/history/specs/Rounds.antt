@@ -10,8 +10,8 @@ use mathlib.Core.List.{List, [], _∷_, flatten}
 use mathlib.Core.Option.{Option, none, some}
 use lib.Dec.{eqb}
 use lib.ListN.{length}
-use Rattle.sets.specs.Choice.{if_then_else_}
-use Rattle.sets.specs.Set.{clients}
+use Rattle.spec.specs.Choice.{if_then_else_}
+use Rattle.spec.specs.Set.{clients}
 use Rattle.spec.specs.declared.Progress.{Progress}
 use Rattle.spec.specs.declared.Progress.the-variants.{Stage, Waiting, Conflict, Done}
 use Rattle.spec.specs.Answers.{Answer, Answered, Refused}

@@ -9,16 +9,16 @@ use lib.Dec.{eqb, ltb, leb}
 use native.Mathlib.Omega.{arith}
 use native.Mathlib.Decide.{decLt}
 use borrow.Author.Tests.{ltb-true, leb-true, eqb-true, lt-ltb, le-leb, eq-eqb}
-use Rattle.rows.specs.Rows.{Row, rowAt, rowsIn, rowsFrom, tagOf, cellOf, commitTag, commitNumber}
-use Rattle.search.specs.Look.{commitOf, isOwn}
-use Rattle.search.specs.Share.{any, wrote}
-use Rattle.search.specs.declared.Number.{Number}
-use Rattle.search.specs.declared.Number.the-variants.{Some, None}
+use Rattle.spec.specs.Rows.{Row, rowAt, rowsIn, rowsFrom, tagOf, cellOf, commitTag, commitNumber}
+use Rattle.spec.specs.Look.{commitOf, isOwn}
+use Rattle.spec.specs.Share.{any, wrote}
+use Rattle.spec.specs.declared.Number.{Number}
+use Rattle.spec.specs.declared.Number.the-variants.{Some, None}
 use Rattle.orderly.proofs.Order.{differ, both-ways, if-left, if-right, some-from, some-in, from-at, rise, number-of, committed}
 use Rattle.search.proofs.Folds.{any-at, own-yes}
-use Rattle.trimming.specs.Trim.{between, later, overtaken, stays}
-use Rattle.orderly.specs.Orderly.{orderlyCommits}
-use Rattle.marking.specs.Served.{serves, served}
+use Rattle.spec.specs.Trim.{between, later, overtaken, stays}
+use Rattle.spec.specs.Orderly.{orderlyCommits}
+use Rattle.spec.specs.Served.{serves, served}
 
 module _ (m : ℕ) (c : List ℕ) (e : orderlyCommits (rowsIn 8 m c) ≡ true) where
   module _ (low n : ℕ) (s : List ℕ) (x j : ℕ) (h : j < m) where

@@ -1,4 +1,3 @@
-pub mod Accord
 pub mod Later
 pub mod Stamps
 pub mod Serving

@@ -10,18 +10,17 @@ use lib.ListN.{length, getD, replicate, length-replicate, getD-replicate}
 use native.Mathlib.Omega.{arith}
 use native.Mathlib.Decide.{decLt, ℕ-discrete}
 use borrow.Author.Tests.{ltb-true, ltb-false, lt-ltb, le-ltb, eq-eqb}
-use Rattle.sets.specs.Choice.{if_then_else_}
-use Rattle.rows.specs.Rows.{Row, rowAt, rowsIn, rowsFrom, tagOf, cellOf, hasTag, commitTag, commitNumber, filter}
-use Rattle.rows.proofs.Rows.{rows-start}
-use Rattle.search.specs.Share.{any}
+use Rattle.spec.specs.Choice.{if_then_else_}
+use Rattle.spec.specs.Rows.{Row, rowAt, rowsIn, rowsFrom, tagOf, cellOf, hasTag, commitTag, commitNumber, filter}
+use Rattle.spec.proofs.Rows.{rows-start}
+use Rattle.spec.specs.Share.{any}
 use Rattle.search.proofs.Folds.{if-same, if-itself, any-step, any-end, any-at, commit-none, tag-yes, tag-no, to-start}
-use Rattle.removal.specs.Kept.{Flags}
-use Rattle.trimming.specs.Trim.{overtaken, stays, inUse, trimmedRows}
-use Rattle.orderly.specs.Chains.{rowEntry, RowEntries}
-use Rattle.orderly.specs.Orderly.{commits, orderlyCommits, orderlyRows}
-use Rattle.marking.specs.Served.{serves, served, Marks}
-use Rattle.orderly.specs.Plain.{Plain}
-use Rattle.marking.specs.SoFar.{Judged, Used, SoFar}
+use Rattle.removal.specs.Inner.{Flags}
+use Rattle.spec.specs.Trim.{overtaken, stays, inUse, trimmedRows}
+use Rattle.orderly.specs.Inner.{rowEntry, RowEntries, Plain}
+use Rattle.spec.specs.Orderly.{commits, orderlyCommits, orderlyRows}
+use Rattle.spec.specs.Served.{serves, served, Marks}
+use Rattle.marking.specs.Inner.{Judged, Used, SoFar}
 use Rattle.orderly.proofs.Order.{differ, both-ways, some-in, alone, plain-more, plain-end}
 use Rattle.marking.proofs.Later.{stays-served}
 use Rattle.orderly.proofs.Walks.{tag-miss, tag-here}

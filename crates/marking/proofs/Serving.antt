@@ -12,10 +12,10 @@ use lib.Seq.{getD-set-same, getD-set-other}
 use native.Mathlib.Omega.{arith}
 use native.Mathlib.Decide.{decLt, ℕ-discrete}
 use borrow.Author.Tests.{lt-ltb, le-ltb, eq-eqb, ne-eqb}
-use Rattle.sets.specs.Choice.{if_then_else_}
-use Rattle.rows.specs.Rows.{Row, rowAt, rowsIn, rowsFrom, tagOf, cellOf, hasTag}
-use Rattle.rows.proofs.Rows.{rows-start}
-use Rattle.search.specs.Share.{any, wrote}
+use Rattle.spec.specs.Choice.{if_then_else_}
+use Rattle.spec.specs.Rows.{Row, rowAt, rowsIn, rowsFrom, tagOf, cellOf, hasTag}
+use Rattle.spec.proofs.Rows.{rows-start}
+use Rattle.spec.specs.Share.{any, wrote}
 use Rattle.search.proofs.Folds.{if-same, any-step, any-end, wrote-hit, wrote-miss, wrote-end, tag-yes, tag-no}
 
 -- ---- the walk over the transaction's rows

@@ -11,12 +11,12 @@ use native.Mathlib.Decide.{ℕ-discrete}
 use borrow.Author.Count.{below-more}
 use borrow.Author.Tests.{eqb-true}
 use lib.Dec.{eqb}
-use Rattle.rows.specs.Rows.{rowAt, rowsIn, rowsFrom, tagOf, cellOf}
-use Rattle.search.specs.Look.{isOwn}
-use Rattle.search.specs.Share.{wrote}
+use Rattle.spec.specs.Rows.{rowAt, rowsIn, rowsFrom, tagOf, cellOf}
+use Rattle.spec.specs.Look.{isOwn}
+use Rattle.spec.specs.Share.{wrote}
 use Rattle.search.proofs.Folds.{own-yes}
-use Rattle.orderly.specs.Orderly.{orderlyRows}
-use Rattle.orderly.specs.Plain.{Plain}
+use Rattle.spec.specs.Orderly.{orderlyRows}
+use Rattle.orderly.specs.Inner.{Plain}
 use Rattle.orderly.proofs.Order.{differ, if-left, if-right, some-from, from-at, displain, plain-twice}
 
 -- Rows before i are done: the cells of those with the tag are below 1,024 and differ, and exactly they are stamped. seen₀ is what was stamped before.

@@ -2,11 +2,11 @@
 -- Assumes nothing.
 use Prim.Native.Nat.{ℕ}
 use mathlib.Core.List.{List}
-use Rattle.rows.specs.Rows.{rowsIn}
-use Rattle.removal.specs.Kept.{keptFrom, Flags, Left}
+use Rattle.spec.specs.Rows.{rowsIn}
+use Rattle.removal.specs.Inner.{keptFrom, Flags, Left}
 use Rattle.removal.proofs.Moving.{kept-where}
-use Rattle.trimming.specs.Trim.{stays, inUse, trimmedRows, trimmedCommits}
-use Rattle.trimming.specs.Trimmed.{Trimmed}
+use Rattle.spec.specs.Trim.{stays, inUse, trimmedRows, trimmedCommits}
+use Rattle.trimming.specs.Inner.{Trimmed}
 
 pub trimmed-kept : (low n m : ℕ) (s c flags uses s′ c′ : List ℕ) (n′ m′ : ℕ)
     → Flags (stays low (rowsIn 24 n s) (rowsIn 8 m c)) 24 n s flags

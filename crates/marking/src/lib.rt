@@ -4,12 +4,12 @@ ghost use mathlib.Core.Path.{_≡_};
 ghost use mathlib.Core.Bool.{true, false};
 ghost use Prim.Native.Nat.{_+_, _*_, _≤_, _<_};
 ghost use lib.ListN.{length, replicate};
-ghost use Rattle.rows.specs.Rows.{rowsIn};
-ghost use Rattle.trimming.specs.Trimmed.{Trimmed};
-ghost use Rattle.orderly.specs.Orderly.{orderlyCommits, orderlyRows, orderly};
-ghost use Rattle.orderly.specs.Chains.{RowsLinked};
-ghost use Rattle.marking.specs.Served.{Marks, Worked};
-ghost use Rattle.marking.specs.SoFar.{SoFar, Judged, Used};
+ghost use Rattle.spec.specs.Rows.{rowsIn};
+ghost use Rattle.trimming.specs.Inner.{Trimmed};
+ghost use Rattle.spec.specs.Orderly.{orderlyCommits, orderlyRows, orderly};
+ghost use Rattle.orderly.specs.Inner.{RowsLinked};
+ghost use Rattle.spec.specs.Served.{Marks, Worked};
+ghost use Rattle.marking.specs.Inner.{SoFar, Judged, Used};
 use trimming::Remaining;
 
 // ---- from the newest: see specs/Served.antt

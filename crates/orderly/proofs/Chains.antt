@@ -8,9 +8,9 @@ use lib.ListN.{length, getD, set, replicate, length-set, length-replicate, getD-
 use lib.Seq.{getD-set-same, getD-set-other}
 use native.Mathlib.Decide.{ℕ-discrete}
 use native.Mathlib.Omega.{arith}
-use Rattle.search.specs.Passes.{Next}
+use Rattle.search.specs.Inner.{Next}
 use Rattle.search.proofs.Passes.{skip}
-use Rattle.orderly.specs.Chains.{Linked, Chain}
+use Rattle.orderly.specs.Inner.{Linked, Chain}
 use Rattle.orderly.proofs.Nexts.{next-none, next-here, next-past, carry}
 
 module _ (key : ℕ → ℕ) (n : ℕ) where

@@ -11,15 +11,15 @@ use lib.Dec.{eqb, ltb}
 use native.Mathlib.Omega.{arith}
 use native.Mathlib.Decide.{decLt, ℕ-discrete}
 use borrow.Author.Tests.{eqb-true, eqb-false, eq-eqb, lt-ltb, ltb-true}
-use Rattle.sets.specs.Choice.{if_then_else_}
-use Rattle.rows.specs.Rows.{rowAt, rowsIn, rowsFrom, tagOf, commitTag}
-use Rattle.rows.proofs.Rows.{rows-start, rows-step, rows-end}
-use Rattle.search.specs.Share.{any}
-use Rattle.search.specs.Passes.{Next}
+use Rattle.spec.specs.Choice.{if_then_else_}
+use Rattle.spec.specs.Rows.{rowAt, rowsIn, rowsFrom, tagOf, commitTag}
+use Rattle.spec.proofs.Rows.{rows-start, rows-step, rows-end}
+use Rattle.spec.specs.Share.{any}
+use Rattle.search.specs.Inner.{Next}
 use Rattle.search.proofs.Folds.{to-start}
-use Rattle.trimming.specs.Places.{place}
-use Rattle.orderly.specs.Chains.{tagPlace, entryOf, rowEntry, Linked, RowEntries, Alike}
-use Rattle.orderly.specs.Orderly.{commits, orderlyCommits}
+use Rattle.trimming.specs.Inner.{place}
+use Rattle.orderly.specs.Inner.{tagPlace, entryOf, rowEntry, Linked, RowEntries, Alike}
+use Rattle.spec.specs.Orderly.{commits, orderlyCommits}
 use Rattle.orderly.proofs.Nexts.{next-none, next-here, next-past, next-one}
 use Rattle.orderly.proofs.Order.{both-ways, some-from, from-at, distinct}
 

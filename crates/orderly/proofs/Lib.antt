@@ -1,4 +1,3 @@
-pub mod Accord
 pub mod Nexts
 pub mod Order
 pub mod Chains

@@ -5,7 +5,7 @@ use native.Mathlib.Nat.{add-zero}
 use mathlib.Core.Path.{_≡_}
 use native.Mathlib.Decide.{decLt}
 use native.Mathlib.Omega.{arith}
-use Rattle.search.specs.Passes.{Next}
+use Rattle.search.specs.Inner.{Next}
 
 pub next-none : {Hit : ℕ → Type 0} (n : ℕ) → Next Hit n n n
 next-none n = record { start = omega arith; end = omega arith; misses = λ k a b f. omega arith; hit = λ a. absurd (omega arith) }

@@ -9,13 +9,12 @@ use lib.ListN.{length, getD, replicate}
 use native.Mathlib.Decide.{decLt, ℕ-discrete}
 use native.Mathlib.Omega.{arith}
 use borrow.Author.Tests.{eq-eqb, ne-eqb}
-use Rattle.rows.specs.Rows.{rowAt, rowsIn, rowsFrom, tagOf, cellOf}
-use Rattle.search.specs.Share.{wrote}
-use Rattle.search.specs.Passes.{Next}
-use Rattle.trimming.specs.Places.{place}
-use Rattle.orderly.specs.Chains.{pairPlace, openPlace, Linked, Alike, PairWalk}
-use Rattle.orderly.specs.Orderly.{orderlyRows}
-use Rattle.orderly.specs.Plain.{Plain}
+use Rattle.spec.specs.Rows.{rowAt, rowsIn, rowsFrom, tagOf, cellOf}
+use Rattle.spec.specs.Share.{wrote}
+use Rattle.search.specs.Inner.{Next}
+use Rattle.trimming.specs.Inner.{place}
+use Rattle.orderly.specs.Inner.{pairPlace, openPlace, Linked, Alike, PairWalk, Plain}
+use Rattle.spec.specs.Orderly.{orderlyRows}
 use Rattle.orderly.proofs.Chains.{linked-none, linked-less, chain-start, head-skip}
 use Rattle.orderly.proofs.Walks.{own-miss}
 use Rattle.orderly.proofs.Order.{displain, plain-large, plain-twice}

@@ -8,14 +8,14 @@ use lib.Dec.{ltb, leb}
 use native.Mathlib.Omega.{arith}
 use native.Mathlib.Decide.{decLt}
 use borrow.Author.Tests.{ltb-true, eqb-true, le-leb, lt-leb, eq-eqb}
-use Rattle.sets.specs.Choice.{if_then_else_}
-use Rattle.rows.specs.Rows.{Row, rowAt, rowsIn, rowsFrom, tagOf, cellOf, commitTag, commitNumber}
-use Rattle.rows.proofs.Rows.{rows-start, rows-step, rows-end}
-use Rattle.search.specs.Look.{commitOf}
-use Rattle.search.specs.Share.{any, wrote}
-use Rattle.search.specs.declared.Number.the-variants.{Some, None}
+use Rattle.spec.specs.Choice.{if_then_else_}
+use Rattle.spec.specs.Rows.{Row, rowAt, rowsIn, rowsFrom, tagOf, cellOf, commitTag, commitNumber}
+use Rattle.spec.proofs.Rows.{rows-start, rows-step, rows-end}
+use Rattle.spec.specs.Look.{commitOf}
+use Rattle.spec.specs.Share.{any, wrote}
+use Rattle.spec.specs.declared.Number.the-variants.{Some, None}
 use Rattle.search.proofs.Folds.{if-same, any-step, any-end, any-at, commit-first, commit-none}
-use Rattle.orderly.specs.Orderly.{under, commits, orderlyCommits, orderlyRows, orderly}
+use Rattle.spec.specs.Orderly.{under, commits, orderlyCommits, orderlyRows, orderly}
 
 pub differ : {b : Bool} → b ≡ true → b ≡ false → ⊥
 differ e f =

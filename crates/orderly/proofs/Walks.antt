@@ -6,12 +6,12 @@ use mathlib.Core.Bool.{Bool, true, false}
 use mathlib.Core.List.{List}
 use lib.Dec.{eqb}
 use borrow.Author.Tests.{eqb-true, eq-eqb, ne-eqb}
-use Rattle.sets.specs.Choice.{if_then_else_}
-use Rattle.rows.specs.Rows.{rowAt, rowsFrom, tagOf, cellOf, commitTag}
-use Rattle.search.specs.Look.{isOwn}
-use Rattle.search.specs.Share.{any, wrote}
+use Rattle.spec.specs.Choice.{if_then_else_}
+use Rattle.spec.specs.Rows.{rowAt, rowsFrom, tagOf, cellOf, commitTag}
+use Rattle.spec.specs.Look.{isOwn}
+use Rattle.spec.specs.Share.{any, wrote}
 use Rattle.search.proofs.Folds.{any-step}
-use Rattle.orderly.specs.Orderly.{commits}
+use Rattle.spec.specs.Orderly.{commits}
 
 module _ (tag n k : ℕ) (c : List ℕ) (h : k < n) where
   pub tag-miss : (commitTag (rowAt 8 k c) ≡ tag → ⊥) → any (commits tag) (rowsFrom 8 n k c) ≡ any (commits tag) (rowsFrom 8 n (k + 1) c)

@@ -1,3 +1,1 @@
-pub mod Orderly
-pub mod Chains
-pub mod Plain
+pub mod Inner

@@ -4,13 +4,12 @@ ghost use mathlib.Core.Path.{_≡_};
 ghost use mathlib.Core.Bool.{true};
 ghost use Prim.Native.Nat.{_*_, _≤_, _<_};
 ghost use lib.ListN.{length, getD, replicate};
-ghost use Rattle.rows.specs.Rows.{rowAt, rowsIn, rowsFrom, commitTag};
-ghost use Rattle.search.specs.Share.{wrote};
-ghost use Rattle.search.specs.Passes.{Next};
-ghost use Rattle.trimming.specs.Places.{place};
-ghost use Rattle.orderly.specs.Orderly.{orderlyCommits};
-ghost use Rattle.orderly.specs.Chains.{tagPlace, entryOf, RowsLinked, pairPlace, Linked, Links, Chain, RowEntries, Alike, PairWalk};
-ghost use Rattle.orderly.specs.Plain.{OpenTest};
+ghost use Rattle.spec.specs.Rows.{rowAt, rowsIn, rowsFrom, commitTag};
+ghost use Rattle.spec.specs.Share.{wrote};
+ghost use Rattle.search.specs.Inner.{Next};
+ghost use Rattle.trimming.specs.Inner.{place};
+ghost use Rattle.spec.specs.Orderly.{orderlyCommits};
+ghost use Rattle.orderly.specs.Inner.{tagPlace, entryOf, RowsLinked, pairPlace, Linked, Links, Chain, RowEntries, Alike, PairWalk, OpenTest};
 
 // ---- chains: from each place, the rows whose key has that place, in their order
 

@@ -5,10 +5,10 @@ use mathlib.Core.Path.{_≡_}
 use mathlib.Core.List.{List}
 use borrow.Author.Tests.{le-ltb, lt-leb, ne-eqb}
 use lib.ListN.{getD}
-use Rattle.sets.specs.Set.{clients}
-use Rattle.rows.specs.Rows.{rowsIn}
-use Rattle.search.specs.declared.Seen.{Seen}
-use Rattle.search.specs.Look.{lookFor}
+use Rattle.spec.specs.Set.{clients}
+use Rattle.spec.specs.Rows.{rowsIn}
+use Rattle.spec.specs.declared.Seen.{Seen}
+use Rattle.spec.specs.Look.{lookFor}
 use Rattle.spec.specs.declared.Store.{Store}
 use Rattle.spec.specs.Calls.{gives, reading, read}
 use Rattle.spec.specs.Bytes.{seen}

@@ -3,14 +3,14 @@ ghost use mathlib.Core.Path.{_≡_};
 ghost use Rattle.spec.specs.Answers.{readOf};
 ghost use Rattle.spec.specs.Calls.{read};
 ghost use Rattle.spec.specs.Bytes.{leaves, after};
-ghost use Rattle.reads.specs.Values.{valueRead, valueFrom};
-use search::Seen;
-use sets::LIMIT;
+ghost use Rattle.spec.specs.Values.{valueRead, valueFrom};
 use spec::CELLS;
+use spec::LIMIT;
 use spec::ReadAnswer;
 use spec::ReadTurn;
 use spec::Reading;
 use spec::Refusal;
+use spec::Seen;
 use spec::Store;
 
 fn no_read(store: Store, refusal: Refusal) -> ReadTurn

@@ -5,21 +5,21 @@ ghost use mathlib.Core.List.{List};
 ghost use lib.Dec.{eqb};
 ghost use lib.ListN.{getD};
 ghost use Prim.Native.Nat.{ℕ, _<_};
-ghost use Rattle.sets.specs.Set.{clients, collect, strike};
-ghost use Rattle.sets.specs.Choice.{if_then_else_};
-ghost use Rattle.search.specs.Numbers.{smallest};
+ghost use Rattle.spec.specs.Set.{clients, collect, strike};
+ghost use Rattle.spec.specs.Choice.{if_then_else_};
+ghost use Rattle.spec.specs.Numbers.{smallest};
 ghost use Rattle.spec.specs.Image.{cleared, closed, empty, Image};
 ghost use Rattle.spec.specs.Calls.{readers, low};
 ghost use Rattle.spec.specs.Steps.{queued, struck};
 ghost use Rattle.spec.specs.Bytes.{countersIn, clientsIn, recordOf, seen, storeOf, known, fits, limitOf, accepts};
-use search::Number;
-use sets::CLIENTS;
-use sets::LIMIT;
-use sets::Set;
+use spec::CLIENTS;
 use spec::FigureAnswer;
 use spec::FigureTurn;
+use spec::LIMIT;
+use spec::Number;
 use spec::Queue;
 use spec::Refusal;
+use spec::Set;
 use spec::Store;
 
 // Whether all stages are known ones, 0 to 13.

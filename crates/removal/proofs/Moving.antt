@@ -15,13 +15,13 @@ use borrow.Rule.Slice.PartMut.{putMid, post-is}
 use borrow.Author.Tests.{eq-eqb, ne-eqb, eqb-false}
 use lib.ListN.{length, set, take, drop, getD, replicate, length-append, length-drop, take-append-drop}
 use lib.Seq.{sets-eq, drop-cons, take-at, drop-at, take-add, length-take-le, drop-drop, getD-set-same, getD-set-other}
-use Rattle.sets.specs.Choice.{if_then_else_}
-use Rattle.rows.specs.Rows.{Row, part, spliced, rowAt, rowsIn, rowsFrom, laid, filter, tagOf, hasTag}
-use Rattle.rows.proofs.Bytes.{spliced-next, take-spliced, drop-spliced, length-spliced, drop-later}
-use Rattle.rows.proofs.Rows.{rows-start, rows-step, rows-end, row-inside, row-length, length-rows}
-use Rattle.rows.proofs.Laid.{laid-fewer, laid-same}
+use Rattle.spec.specs.Choice.{if_then_else_}
+use Rattle.spec.specs.Rows.{Row, part, spliced, rowAt, rowsIn, rowsFrom, laid, filter, tagOf, hasTag}
+use Rattle.spec.proofs.Bytes.{spliced-next, take-spliced, drop-spliced, length-spliced, drop-later}
+use Rattle.spec.proofs.Rows.{rows-start, rows-step, rows-end, row-inside, row-length, length-rows}
+use Rattle.spec.proofs.Laid.{laid-fewer, laid-same}
 use Rattle.search.proofs.Folds.{to-start}
-use Rattle.removal.specs.Kept.{keptFrom, otherTag, Flags, Left}
+use Rattle.removal.specs.Inner.{keptFrom, otherTag, Flags, Left}
 
 -- ---- a word, and a row of words
 

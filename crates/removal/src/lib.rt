@@ -3,10 +3,10 @@ ghost use mathlib.Core.Path.{_≡_};
 ghost use mathlib.Core.List.{_++_, flatten};
 ghost use Prim.Native.Nat.{ℕ, _+_, _*_, _≤_, _<_};
 ghost use lib.ListN.{length, getD, drop};
-ghost use Rattle.sets.specs.Choice.{if_then_else_};
-ghost use Rattle.rows.specs.Rows.{part, spliced, rowAt, rowsIn, tagOf, filter};
-ghost use Rattle.search.specs.Passes.{Next};
-ghost use Rattle.removal.specs.Kept.{keptFrom, otherTag, Flags, Left};
+ghost use Rattle.spec.specs.Choice.{if_then_else_};
+ghost use Rattle.spec.specs.Rows.{part, spliced, rowAt, rowsIn, tagOf, filter};
+ghost use Rattle.search.specs.Inner.{Next};
+ghost use Rattle.removal.specs.Inner.{keptFrom, otherTag, Flags, Left};
 
 // ---- the compaction
 

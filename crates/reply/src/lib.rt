@@ -14,7 +14,7 @@ ghost use Prim.Native.Nat.{_+_, _≤_};
 ghost use lib.ListN.{length};
 ghost use Rattle.spec.specs.Answers.{code, figureOf, beginOf, readOf, advanceOf};
 ghost use Rattle.spec.specs.Text.{str, numbered, headText, lineText, answerText, freeText, droppedText, begunText, readingText, progressText, refusedText, hexText};
-ghost use Rattle.text.specs.Print.{Put};
+ghost use Rattle.text.specs.Inner.{Put};
 
 // Document 01's number of a refusal; 11 is unused.
 pub fn code_of(r: Refusal) -> u32

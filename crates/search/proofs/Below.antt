@@ -7,16 +7,16 @@ use mathlib.Core.List.{List, [], _∷_}
 use native.Mathlib.Omega.{arith}
 use lib.ListN.{length}
 use lib.Dec.{ltb}
-use Rattle.sets.specs.Choice.{if_then_else_}
-use Rattle.rows.specs.Rows.{Row, rowsIn}
-use Rattle.rows.proofs.Rows.{length-rows}
-use Rattle.search.specs.declared.Number.{Number}
-use Rattle.search.specs.declared.Number.the-variants.{Some, None}
-use Rattle.search.specs.declared.Found.{Found}
-use Rattle.search.specs.declared.Found.the-variants.{At, Missing}
-use Rattle.search.specs.declared.Seen.{Seen}
-use Rattle.search.specs.declared.Seen.the-variants.{Version, Nothing}
-use Rattle.search.specs.Look.{isOwn, find, versionOf, newer, seenAt, newest, ownOr, lookFor}
+use Rattle.spec.specs.Choice.{if_then_else_}
+use Rattle.spec.specs.Rows.{Row, rowsIn}
+use Rattle.spec.proofs.Rows.{length-rows}
+use Rattle.spec.specs.declared.Number.{Number}
+use Rattle.spec.specs.declared.Number.the-variants.{Some, None}
+use Rattle.spec.specs.declared.Found.{Found}
+use Rattle.spec.specs.declared.Found.the-variants.{At, Missing}
+use Rattle.spec.specs.declared.Seen.{Seen}
+use Rattle.spec.specs.declared.Seen.the-variants.{Version, Nothing}
+use Rattle.spec.specs.Look.{isOwn, find, versionOf, newer, seenAt, newest, ownOr, lookFor}
 
 -- what was seen is below row n
 abbrev Below : ℕ → Seen → Type 0

@@ -5,14 +5,14 @@ use mathlib.Core.Path.{_≡_, refl, ap}
 use mathlib.Core.Bool.{Bool, true, false, true≢false}
 use mathlib.Core.List.{List, [], _∷_, map}
 use lib.Dec.{eqb, ltb}
-use Rattle.sets.specs.Choice.{if_then_else_}
-use Rattle.rows.specs.Rows.{Row, tagOf, cellOf, commitNumber, commitTag, rowAt, rowsIn, rowsFrom}
-use Rattle.rows.proofs.Rows.{rows-start, rows-step, rows-end}
-use Rattle.search.specs.declared.Number.{Number}
-use Rattle.search.specs.declared.Number.the-variants.{Some, None}
-use Rattle.search.specs.Numbers.{lesser, smallest, above}
-use Rattle.search.specs.Look.{commitOf}
-use Rattle.search.specs.Share.{any, wrote, clash, conflict}
+use Rattle.spec.specs.Choice.{if_then_else_}
+use Rattle.spec.specs.Rows.{Row, tagOf, cellOf, commitNumber, commitTag, rowAt, rowsIn, rowsFrom}
+use Rattle.spec.proofs.Rows.{rows-start, rows-step, rows-end}
+use Rattle.spec.specs.declared.Number.{Number}
+use Rattle.spec.specs.declared.Number.the-variants.{Some, None}
+use Rattle.spec.specs.Numbers.{lesser, smallest, above}
+use Rattle.spec.specs.Look.{commitOf}
+use Rattle.spec.specs.Share.{any, wrote, clash, conflict}
 use Rattle.search.proofs.Folds.{lesser-assoc, lesser-none}
 
 -- ---- no commit above the snapshot

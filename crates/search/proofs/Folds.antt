@@ -9,17 +9,17 @@ use native.Mathlib.Numerals.{add-one}
 use native.Mathlib.Omega.{arith}
 use lib.Dec.{eqb, ltb}
 use borrow.Author.Tests.{eq-eqb, ne-eqb, lt-ltb, le-ltb, ltb-true, ltb-false}
-use Rattle.sets.specs.Choice.{if_then_else_}
-use Rattle.rows.specs.Rows.{Row, tagOf, cellOf, hasTag, commitNumber, commitTag, rowAt, rowsIn, rowsFrom}
-use Rattle.rows.proofs.Rows.{rows-start, rows-step, rows-end, rows-last}
-use Rattle.search.specs.declared.Number.{Number}
-use Rattle.search.specs.declared.Number.the-variants.{Some, None}
-use Rattle.search.specs.declared.Found.the-variants.{At, Missing}
-use Rattle.search.specs.declared.Seen.{Seen}
-use Rattle.search.specs.declared.Seen.the-variants.{Version, Nothing}
-use Rattle.search.specs.Numbers.{lesser}
-use Rattle.search.specs.Look.{commitOf, isOwn, find, newer, seenAt, newest}
-use Rattle.search.specs.Share.{any, count, wrote, cellsOf}
+use Rattle.spec.specs.Choice.{if_then_else_}
+use Rattle.spec.specs.Rows.{Row, tagOf, cellOf, hasTag, commitNumber, commitTag, rowAt, rowsIn, rowsFrom}
+use Rattle.spec.proofs.Rows.{rows-start, rows-step, rows-end, rows-last}
+use Rattle.spec.specs.declared.Number.{Number}
+use Rattle.spec.specs.declared.Number.the-variants.{Some, None}
+use Rattle.spec.specs.declared.Found.the-variants.{At, Missing}
+use Rattle.spec.specs.declared.Seen.{Seen}
+use Rattle.spec.specs.declared.Seen.the-variants.{Version, Nothing}
+use Rattle.spec.specs.Numbers.{lesser}
+use Rattle.spec.specs.Look.{commitOf, isOwn, find, newer, seenAt, newest}
+use Rattle.spec.specs.Share.{any, count, wrote, cellsOf}
 
 -- ---- choices
 

@@ -9,9 +9,9 @@ use lib.ListN.{length, getD, set, length-set}
 use lib.Seq.{getD-set-same, getD-set-other}
 use lib.Dec.{eqb, ltb}
 use borrow.Author.Tests.{eqb-true, eqb-false, lt-ltb}
-use Rattle.sets.specs.Choice.{if_then_else_}
-use Rattle.rows.specs.Rows.{tagOf, cellOf, rowAt, rowsFrom}
-use Rattle.search.specs.Share.{wrote}
+use Rattle.spec.specs.Choice.{if_then_else_}
+use Rattle.spec.specs.Rows.{tagOf, cellOf, rowAt, rowsFrom}
+use Rattle.spec.specs.Share.{wrote}
 use Rattle.search.proofs.Folds.{wrote-hit, wrote-miss}
 
 -- whether it is written, from the number that stands for it

@@ -5,7 +5,7 @@ use mathlib.Core.Path.{_≡_, ap, _∙_}
 use native.Mathlib.Nat.{add-zero}
 use native.Mathlib.Omega.{arith}
 use borrow.Author.Count.{below-more}
-use Rattle.search.specs.Passes.{Next}
+use Rattle.search.specs.Inner.{Next}
 
 -- one more row that is no hit
 pub miss-more : (Hit : ℕ → Type 0) (from i : ℕ) → ((k : ℕ) → from ≤ k → k < i → Hit k → ⊥) → (Hit i → ⊥) → (k : ℕ) → from ≤ k → k < i + 1 → Hit k → ⊥

@@ -7,34 +7,18 @@ use mathlib.Core.Path.{_≡_}
 use mathlib.Core.List.{List}
 use native.Mathlib.Nat.{add-zero, zero-add, add-assoc}
 use borrow.Author.Tests.{eq-eqb, ne-eqb}
-use Rattle.rows.specs.Rows.{Row, tagOf, cellOf, hasTag, rowAt, rowsIn, rowsFrom}
-use Rattle.rows.proofs.Rows.{rows-start}
-use Rattle.search.specs.declared.Number.the-variants.{None}
-use Rattle.search.specs.declared.Seen.{Seen}
-use Rattle.search.specs.declared.Seen.the-variants.{Version, Nothing}
+use Rattle.spec.specs.Rows.{Row, tagOf, cellOf, hasTag, rowAt, rowsIn, rowsFrom}
+use Rattle.spec.proofs.Rows.{rows-start}
+use Rattle.spec.specs.declared.Number.the-variants.{None}
+use Rattle.spec.specs.declared.Seen.{Seen}
+use Rattle.spec.specs.declared.Seen.the-variants.{Version, Nothing}
 use Rattle.search.specs.declared.Own.{Own}
 use Rattle.search.specs.declared.Own.the-variants.{Row as OwnRow, Rows as OwnRows}
-use Rattle.search.specs.Numbers.{upTo}
-use Rattle.search.specs.Look.{commitOf, isOwn, find, versionOf, newer, seenAt, newest, ownOr, lookFor}
-use Rattle.search.specs.Share.{count, rowOrCount}
-use Rattle.search.proofs.Folds.{
-  own-yes,
-  own-other-tag,
-  own-other-cell,
-  tag-yes,
-  tag-no,
-  find-hit,
-  find-miss,
-  find-end,
-  count-hit,
-  count-miss,
-  count-end,
-  newest-step,
-  newest-miss,
-  newest-end,
-  newer-assoc,
-  newer-none,
-}
+use Rattle.spec.specs.Numbers.{upTo}
+use Rattle.spec.specs.Look.{commitOf, isOwn, find, versionOf, newer, seenAt, newest, ownOr, lookFor}
+use Rattle.spec.specs.Share.{count}
+use Rattle.search.specs.Inner.{rowOrCount}
+use Rattle.search.proofs.Folds.{own-yes, own-other-tag, own-other-cell, tag-yes, tag-no, find-hit, find-miss, find-end, count-hit, count-miss, count-end, newest-step, newest-miss, newest-end, newer-assoc, newer-none}
 
 version-yes : (cell s : ℕ) (cs : List Row) (r : Row) → cellOf r ≡ cell → versionOf cell s cs r ≡ upTo s (commitOf (tagOf r) cs)
 unfolding versionOf

@@ -8,12 +8,12 @@ use native.Mathlib.Omega.{arith}
 use lib.ListN.{getD}
 use lib.Dec.{eqb, ltb}
 use borrow.Author.Tests.{eq-eqb, ne-eqb, lt-ltb, le-ltb, eqb-true, eqb-false, ltb-true, ltb-false}
-use Rattle.sets.specs.Choice.{if_then_else_}
-use Rattle.sets.specs.Set.{clients, member, insert, collect}
-use Rattle.sets.specs.Laws.{member-insert, member-above, member-collect, collect-lt, same-members}
-use Rattle.rows.specs.Rows.{Row, tagOf, cellOf, hasTag, rowAt, rowsIn, rowsFrom}
-use Rattle.rows.proofs.Rows.{rows-start, rows-step}
-use Rattle.search.specs.Share.{any, wrote, shares}
+use Rattle.spec.specs.Choice.{if_then_else_}
+use Rattle.spec.specs.Set.{clients, member, insert, collect}
+use Rattle.spec.proofs.Sets.{member-insert, member-above, member-collect, collect-lt, same-members}
+use Rattle.spec.specs.Rows.{Row, tagOf, cellOf, hasTag, rowAt, rowsIn, rowsFrom}
+use Rattle.spec.proofs.Rows.{rows-start, rows-step}
+use Rattle.spec.specs.Share.{any, wrote, shares}
 use Rattle.search.proofs.Folds.{if-same, any-step, any-end}
 
 eqb-turn : (a b : ℕ) → eqb a b ≡ eqb b a

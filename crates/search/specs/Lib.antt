@@ -1,4 +1,1 @@
-pub mod Numbers
-pub mod Look
-pub mod Share
-pub mod Passes
+pub mod Inner

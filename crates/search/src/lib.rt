@@ -1,36 +1,21 @@
 // Searches over the rows of both buffers.
 ghost use mathlib.Core.Path.{_≡_};
-ghost use mathlib.Core.Bool.{Bool, true, _&&_, _||_};
+ghost use mathlib.Core.Bool.{true, _&&_, _||_};
 ghost use Prim.Native.Nat.{ℕ, _+_, _*_, _≤_, _<_};
 ghost use lib.Dec.{eqb, ltb};
 ghost use lib.ListN.{length, getD, set};
-ghost use Rattle.sets.specs.Set.{clients, member, insert, collect};
-ghost use Rattle.sets.specs.Choice.{if_then_else_};
-ghost use Rattle.rows.specs.Rows.{rowAt, rowsIn, rowsFrom, tagOf, cellOf, commitNumber, hasTag};
-ghost use Rattle.search.specs.Numbers.{lesser, above, upTo};
-ghost use Rattle.search.specs.Look.{commitOf, isOwn, find, newer, seenAt, lookFor, valueIn};
-ghost use Rattle.search.specs.Share.{any, count, wrote, rowOrCount, cellsOf, shares, conflict};
-ghost use Rattle.search.specs.Passes.{Next, Marked};
-use sets::CLIENTS;
-use sets::Set;
-
-// A number, if there is one.
-pub enum Number {
-    Some(u32),
-    None,
-}
-
-// Where a row is, if there is one.
-pub enum Found {
-    At(usize),
-    Missing,
-}
-
-// A data row and the number it is committed under (0 for an own write), if there is one.
-pub enum Seen {
-    Version { at: usize, number: u32 },
-    Nothing,
-}
+ghost use Rattle.spec.specs.Set.{clients, member, insert, collect};
+ghost use Rattle.spec.specs.Choice.{if_then_else_};
+ghost use Rattle.spec.specs.Rows.{rowAt, rowsIn, rowsFrom, tagOf, cellOf, commitNumber, hasTag};
+ghost use Rattle.spec.specs.Numbers.{lesser, above, upTo};
+ghost use Rattle.spec.specs.Look.{commitOf, isOwn, find, newer, seenAt, lookFor};
+ghost use Rattle.spec.specs.Share.{any, count, wrote, cellsOf, shares, conflict};
+ghost use Rattle.search.specs.Inner.{rowOrCount, Next, Marked};
+use spec::CLIENTS;
+use spec::Found;
+use spec::Number;
+use spec::Seen;
+use spec::Set;
 
 // The row of a transaction for a cell, or how many rows it has where there is none.
 pub enum Own {
@@ -147,27 +132,6 @@ pub fn look_for(
         i = next_cell(rows, i + 1, used, cell);
     }
     best
-}
-
-// The sixteen bytes that a read finds, as they stand in the data buffer; none where the cell is unwritten.
-pub fn lookup<'a>(
-    rows: &'a [u8],
-    used: usize,
-    commits: &[u8],
-    entries: usize,
-    tag: u32,
-    cell: u32,
-    snapshot: u32,
-) -> &'a [u8]
-    requires { ⌜ 24 * used ≤ length (now rows) ⌝ }
-    requires { ⌜ 8 * entries ≤ length (now commits) ⌝ }
-    ensures { λ r. ⌜ now r ≡ valueIn (rowsIn 24 used (now (rows .entry))) (lookFor tag cell snapshot (rowsIn 24 used (now (rows .entry))) (rowsIn 8 entries (now (commits .entry)))) ⌝ }
-{
-    let seen = look_for(rows, used, commits, entries, tag, cell, snapshot);
-    match seen {
-        Seen::Version { at, number: _ } => rows::value_at(rows, at),
-        Seen::Nothing => &rows[0..0],
-    }
 }
 
 // ---- a transaction's own rows

@@ -1,8 +1,8 @@
 -- The lines of an input. The search for a newline goes byte by byte; the first line ends at the first newline, and the other lines are those of
 -- what stands behind it; so an answer to that line, and the answers to the lines behind it, are the answers to all.
 -- Assumes nothing.
-use Prim.Native.Nat.{ℕ, zero, suc, _+_, _-_, _≤_, _<_}
-use mathlib.Core.Path.{_≡_, refl, sym, ap, subst, _∙_}
+use Prim.Native.Nat.{ℕ, suc, _+_, _-_, _≤_, _<_}
+use mathlib.Core.Path.{_≡_, refl, sym, ap, _∙_}
 use mathlib.Core.Bool.{Bool, true, false}
 use mathlib.Core.Logic.{_⊎_, inl, inr, ⊎-elim}
 use mathlib.Core.List.{List, [], _∷_, _++_, append-assoc}
@@ -13,9 +13,7 @@ use lib.ListN.{length, getD, take, drop, length-drop, drop-of-length-le}
 use lib.Seq.{drop-cons, drop-drop}
 use lib.Dec.{eqb}
 use Rattle.spec.specs.Session.{World, answerTo, answers}
-use Rattle.text.specs.Print.{Put}
-use Rattle.session.specs.Lines.{newlineFrom, push, linesOf, unlessLines, restOf}
-use Rattle.session.specs.Spoken.{Spoken, worldAfter}
+use Rattle.session.specs.Inner.{newlineFrom, push, linesOf, unlessLines, restOf, Spoken, worldAfter}
 
 -- ---- one turn of the search for a newline
 

@@ -5,11 +5,11 @@
 use Prim.Native.Nat.{ℕ, _+_, _*_, _-_, _/_, _≤_, _<_}
 use mathlib.Core.Path.{_≡_, refl, sym, ap, subst, _∙_}
 use mathlib.Core.Bool.{Bool, true, false}
-use mathlib.Core.Logic.{_⊎_, inl, inr, ⊎-elim}
+use mathlib.Core.Logic.{⊎-elim}
 use mathlib.Core.List.{List, _++_}
 use native.Mathlib.Omega.{arith}
 use borrow.Author.Tests.{le-ltb, lt-ltb}
-use Rattle.sets.specs.Choice.{if_then_else_}
+use Rattle.spec.specs.Choice.{if_then_else_}
 use lib.ListN.{length, take, drop, replicate, take-append-drop, drop-of-length-le}
 use lib.Seq.{take-all, take-length, drop-length}
 use Rattle.spec.specs.declared.Store.{Store}
@@ -22,8 +22,8 @@ use Rattle.spec.specs.Calls.{Outcome}
 use Rattle.spec.specs.Bytes.{storeOf, After, leaves, after, limitOf, accepts, setUp}
 use Rattle.spec.specs.Text.{formOf, freeText, answerText, refusedText, lineText}
 use Rattle.spec.specs.Session.{World, worldOf, behind, called, said, setUpSaid, setUpResponse, response, answerTo}
-use Rattle.text.specs.Print.{Put}
-use Rattle.session.specs.Spoken.{Front, Spoken, keptOf}
+use Rattle.text.specs.Inner.{Put}
+use Rattle.session.specs.Inner.{Front, Spoken, keptOf}
 
 pub front-take : (n r : ℕ) (b : List ℕ) → Front n (length b) r → take r b ≡ take n b
 front-take n r b f =

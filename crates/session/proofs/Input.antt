@@ -2,9 +2,9 @@
 -- The argument: what is kept of a begun line is that line, or both are over 80 bytes and have no newline. Such lines are no form, whatever they
 -- are and whatever follows in them, so the answers are the same; and what is begun and kept after the next chunk is so related again.
 -- Assumes nothing.
-use Prim.Native.Nat.{ℕ, zero, suc, _+_, _≤_, _<_}
+use Prim.Native.Nat.{ℕ, zero, suc, _≤_, _<_}
 use mathlib.Core.Path.{_≡_, refl, sym, ap, subst, _∙_}
-use mathlib.Core.Bool.{Bool, true, false}
+use mathlib.Core.Bool.{true, false}
 use mathlib.Core.Logic.{_⊎_, inl, inr, ⊎-elim}
 use mathlib.Core.List.{List, [], _∷_, _++_, append-assoc, append-nil}
 use native.Mathlib.Omega.{arith}
@@ -14,9 +14,7 @@ use lib.ListN.{length, take, length-append}
 use lib.Seq.{length-take-le, take-all}
 use Rattle.spec.specs.Text.{formOf}
 use Rattle.spec.specs.Session.{World, answerTo, answers, response, glue, lines, initial, output}
-use Rattle.session.specs.Lines.{push, linesOf, unlessLines, restOf}
-use Rattle.session.specs.Spoken.{worldAfter}
-use Rattle.session.specs.Input.{joined, lastOf, inChunks}
+use Rattle.session.specs.Inner.{push, linesOf, unlessLines, restOf, worldAfter, joined, lastOf, inChunks}
 use Rattle.session.proofs.Chunks.{either, lines-nil, rest-nil, lines-here, lines-past, rest-here, rest-past, answers-cons, after-cons}
 
 -- ---- the lines of an input by those that end in a newline

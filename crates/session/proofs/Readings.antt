@@ -2,32 +2,32 @@
 -- that the definition prints.
 -- Assumes nothing.
 use Prim.Native.Nat.{ℕ, _+_, _*_, _/_, _≤_, _<_}
-use mathlib.Core.Path.{_≡_, refl, sym, ap, subst, _∙_}
+use mathlib.Core.Path.{_≡_, refl, sym, ap, subst}
 use mathlib.Core.Bool.{Bool, true, false, not}
 use mathlib.Core.List.{List, []}
 use native.Mathlib.Omega.{arith}
 use borrow.Author.Tests.{lt-leb}
 use lib.Dec.{ltb, leb}
 use lib.ListN.{length, take, length-take}
-use Rattle.sets.specs.Choice.{if_then_else_}
-use Rattle.sets.specs.Set.{clients}
-use Rattle.rows.specs.Rows.{rowsIn, rowAt, valueOf}
-use Rattle.search.specs.declared.Seen.{Seen}
-use Rattle.search.specs.declared.Seen.the-variants.{Version, Nothing}
-use Rattle.search.specs.Look.{lookFor}
+use Rattle.spec.specs.Choice.{if_then_else_}
+use Rattle.spec.specs.Set.{clients}
+use Rattle.spec.specs.Rows.{rowsIn, rowAt, valueOf}
+use Rattle.spec.specs.declared.Seen.{Seen}
+use Rattle.spec.specs.declared.Seen.the-variants.{Version, Nothing}
+use Rattle.spec.specs.Look.{lookFor}
 use Rattle.search.proofs.Below.{look-below}
 use Rattle.spec.specs.declared.Store.{Store}
 use Rattle.spec.specs.declared.Form.{Form}
 use Rattle.spec.specs.declared.Reading.{Reading}
 use Rattle.spec.specs.declared.Reading.the-variants.{Value, Unwritten}
-use Rattle.spec.specs.Answers.{Answer, Answered, Refused, noClient, noCell, notOpen, wrongStage}
+use Rattle.spec.specs.Answers.{Answer, Answered, Refused}
 use Rattle.spec.specs.Image.{isOpen, stageOf, numberOf, snapshotOf}
-use Rattle.spec.specs.Calls.{Outcome, gives, refuse, cells, reading, read}
+use Rattle.spec.specs.Calls.{Outcome, cells, reading, read}
 use Rattle.spec.specs.Bytes.{After, seen, leaves, laidOut, fits, after}
 use Rattle.spec.specs.Text.{readingText, answerText, lineText}
-use Rattle.spec.specs.Session.{World, worldOf, valueAt, said, called}
+use Rattle.spec.specs.Session.{World, worldOf, valueAt}
 use Rattle.spec.proofs.Ends.{fit-of}
-use Rattle.reads.specs.Values.{valueRead, valueFrom}
+use Rattle.spec.specs.Values.{valueRead, valueFrom}
 
 -- a row that an answer names has P
 abbrev pub Names : (ℕ → Type 0) → Answer Reading → Type 0

@@ -1,3 +1,1 @@
-pub mod Lines
-pub mod Spoken
-pub mod Input
+pub mod Inner

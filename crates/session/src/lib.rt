@@ -6,16 +6,15 @@ use spec::ReadAnswer;
 use spec::Reading;
 use spec::Store;
 ghost use mathlib.Core.Path.{_≡_};
-ghost use Prim.Native.Nat.{ℕ, _+_, _*_, _-_, _≤_};
+ghost use Prim.Native.Nat.{_+_, _*_, _-_, _≤_};
 ghost use lib.ListN.{length, take, drop};
-ghost use Rattle.spec.specs.Answers.{Answer, readOf, figureOf, noForm};
+ghost use Rattle.spec.specs.Answers.{readOf};
 ghost use Rattle.spec.specs.Calls.{free, begin, read, write, abandon, trim};
 ghost use Rattle.spec.specs.Steps.{advance};
-ghost use Rattle.spec.specs.Text.{valueIn, freeText, droppedText, begunText, readingText, progressText, refusedText, lineText};
-ghost use Rattle.spec.specs.Session.{worldOf, responds, called, said, valueAt, setUpResponse, answerTo};
-ghost use Rattle.reads.specs.Values.{valueFrom};
-ghost use Rattle.session.specs.Lines.{newlineFrom};
-ghost use Rattle.session.specs.Spoken.{Front, Spoken, keptOf, Fed};
+ghost use Rattle.spec.specs.Text.{valueIn, freeText, droppedText, begunText, readingText, progressText};
+ghost use Rattle.spec.specs.Session.{worldOf, called, said, valueAt, setUpResponse, answerTo};
+ghost use Rattle.spec.specs.Values.{valueFrom};
+ghost use Rattle.session.specs.Inner.{newlineFrom, Front, Spoken, keptOf, Fed};
 
 pub struct Answered {
     pub store: Store,

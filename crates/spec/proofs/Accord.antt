@@ -8,13 +8,13 @@ use mathlib.Core.List.{List, [], _∷_, flatten}
 use lib.ListN.{length, getD, set, replicate}
 use native.Mathlib.Omega.{arith}
 use borrow.Author.Tests.{le-ltb, le-leb, lt-leb, eq-eqb, ne-eqb}
-use Rattle.sets.specs.Choice.{if_then_else_}
-use Rattle.sets.specs.Set.{clients, bit, member, insert, remove, size, collect, strike}
-use Rattle.rows.specs.Rows.{Row, rowsIn, rowsFrom, laid, number, bytesOf, dataRow, tagOf, cellOf, commitRow, commitNumber, commitTag, filter, hasTag}
-use Rattle.search.specs.Numbers.{lesser, smallest, above}
-use Rattle.search.specs.Look.{commitOf, isOwn}
-use Rattle.search.specs.Share.{any, wrote, cellsOf, shares, clash, conflict}
-use Rattle.trimming.specs.Trim.{between, later, overtaken, stays, trimmedRows, inUse, trimmedCommits}
+use Rattle.spec.specs.Choice.{if_then_else_}
+use Rattle.spec.specs.Set.{clients, bit, member, insert, remove, size, collect, strike}
+use Rattle.spec.specs.Rows.{Row, rowsIn, rowsFrom, laid, number, bytesOf, dataRow, tagOf, cellOf, commitRow, commitNumber, commitTag, filter, hasTag}
+use Rattle.spec.specs.Numbers.{lesser, smallest, above}
+use Rattle.spec.specs.Look.{commitOf, isOwn}
+use Rattle.spec.specs.Share.{any, wrote, cellsOf, shares, clash, conflict}
+use Rattle.spec.specs.Trim.{between, later, overtaken, stays, trimmedRows, inUse, trimmedCommits}
 use Rattle.spec.specs.declared.Progress.the-variants.{Stage, Waiting, Conflict, Done}
 use Rattle.spec.specs.declared.Store.{Store}
 use Rattle.spec.specs.Answers.{Answer, Answered, Refused, unfit, noClient, notOpen, wrongStage, cellLimit}

@@ -1,16 +1,16 @@
 -- How a call ends: the laws by which each return of a call's code is shown to be what the call's definition leaves.
 -- Assumes nothing.
 use Prim.Native.Nat.{ℕ, _*_, _/_, _≤_}
-use mathlib.Core.Path.{_≡_, refl, sym, ap, _∙_}
+use mathlib.Core.Path.{_≡_, refl}
 use mathlib.Core.Bool.{Bool, true, false, not, false≢true}
 use mathlib.Core.List.{List}
 use borrow.Author.Tests.{eqb-true, eqb-false, ltb-false, not-false}
 use lib.Dec.{eqb, ltb}
 use lib.ListN.{length}
-use Rattle.sets.specs.Choice.{if_then_else_}
-use Rattle.rows.specs.Rows.{rowsIn, laid}
-use Rattle.rows.proofs.Rows.{length-rows}
-use Rattle.rows.proofs.Laid.{laid-same}
+use Rattle.spec.specs.Choice.{if_then_else_}
+use Rattle.spec.specs.Rows.{rowsIn, laid}
+use Rattle.spec.proofs.Rows.{length-rows}
+use Rattle.spec.proofs.Laid.{laid-same}
 use Rattle.spec.specs.declared.Store.{Store}
 use Rattle.spec.specs.Answers.{Answer, Refused, unfit}
 use Rattle.spec.specs.Image.{Counters, Clients, imageOf, Image}

@@ -5,9 +5,9 @@ use mathlib.Core.Bool.{Bool, true, false, not}
 use mathlib.Core.List.{List}
 use lib.ListN.{length, getD, replicate}
 use lib.Dec.{ltb, eqb}
-use Rattle.sets.specs.Choice.{if_then_else_}
-use Rattle.sets.specs.Set.{clients}
-use Rattle.rows.specs.Rows.{rowsIn, laid}
+use Rattle.spec.specs.Choice.{if_then_else_}
+use Rattle.spec.specs.Set.{clients}
+use Rattle.spec.specs.Rows.{rowsIn, laid}
 use Rattle.spec.specs.declared.Store.{Store}
 use Rattle.spec.specs.Answers.{Answer, Answered, Refused, badSetUp, unfit}
 use Rattle.spec.specs.Image.{Counters, countersOf, Clients, clientsOf, imageOf, Image, empty}

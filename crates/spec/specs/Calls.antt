@@ -3,40 +3,27 @@
 -- these, in Bytes.antt. Client k, cell x, value v. The steps of Advance are in Steps.antt.
 -- Assumes nothing.
 use Prim.Native.Nat.{ℕ, zero, suc, _+_, _-_}
-use mathlib.Core.Bool.{Bool, not}
+use mathlib.Core.Bool.{not}
 use mathlib.Core.List.{List, [], _∷_, _++_}
 use lib.ListN.{length, getD, set}
 use lib.Dec.{leb, ltb, eqb}
-use Rattle.sets.specs.Choice.{if_then_else_}
-use Rattle.sets.specs.Set.{clients}
-use Rattle.rows.specs.Rows.{Row, dataRow, withValue, filter, hasTag}
-use Rattle.search.specs.declared.Number.{Number}
-use Rattle.search.specs.declared.Number.the-variants.{Some, None}
-use Rattle.search.specs.declared.Found.{Found}
-use Rattle.search.specs.declared.Found.the-variants.{At, Missing}
-use Rattle.search.specs.declared.Seen.{Seen}
-use Rattle.search.specs.declared.Seen.the-variants.{Version, Nothing}
-use Rattle.search.specs.Numbers.{smallest}
-use Rattle.search.specs.Look.{isOwn, find, lookFor}
-use Rattle.search.specs.Share.{cellsOf}
-use Rattle.trimming.specs.Trim.{trimmedRows, trimmedCommits}
+use Rattle.spec.specs.Choice.{if_then_else_}
+use Rattle.spec.specs.Set.{clients}
+use Rattle.spec.specs.Rows.{Row, dataRow, withValue, filter, hasTag}
+use Rattle.spec.specs.declared.Number.{Number}
+use Rattle.spec.specs.declared.Number.the-variants.{Some, None}
+use Rattle.spec.specs.declared.Found.{Found}
+use Rattle.spec.specs.declared.Found.the-variants.{At, Missing}
+use Rattle.spec.specs.declared.Seen.{Seen}
+use Rattle.spec.specs.declared.Seen.the-variants.{Version, Nothing}
+use Rattle.spec.specs.Numbers.{smallest}
+use Rattle.spec.specs.Look.{isOwn, find, lookFor}
+use Rattle.spec.specs.Share.{cellsOf}
+use Rattle.spec.specs.Trim.{trimmedRows, trimmedCommits}
 use Rattle.spec.specs.declared.Begun.{Begun}
 use Rattle.spec.specs.declared.Reading.{Reading}
 use Rattle.spec.specs.declared.Reading.the-variants.{Value, Unwritten}
-use Rattle.spec.specs.Answers.{
-  Answer,
-  Answered,
-  Refused,
-  noClient,
-  noCell,
-  alreadyOpen,
-  notOpen,
-  wrongStage,
-  numbersUsedUp,
-  cellLimit,
-  noFreeRow,
-  wrongLength,
-}
+use Rattle.spec.specs.Answers.{Answer, Answered, Refused, noClient, noCell, alreadyOpen, notOpen, wrongStage, numbersUsedUp, cellLimit, noFreeRow, wrongLength}
 use Rattle.spec.specs.Image.{Image, withClients, withRows, withIssued, opened, closed, stageOf, numberOf, snapshotOf, isOpen}
 
 -- what a call makes of an image

@@ -7,8 +7,8 @@ use mathlib.Core.Bool.{Bool, not}
 use mathlib.Core.List.{List, [], map}
 use lib.ListN.{getD, set, replicate}
 use lib.Dec.{eqb}
-use Rattle.sets.specs.Set.{clients, remove}
-use Rattle.rows.specs.Rows.{Row}
+use Rattle.spec.specs.Set.{clients, remove}
+use Rattle.spec.specs.Rows.{Row}
 
 -- "Three counters, 32 bits: W (transactions), R (commit requests), C (commits)": the last number taken of each; and "the last commit number"
 pub record Counters : Type 0 where

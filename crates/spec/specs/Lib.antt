@@ -9,3 +9,13 @@ pub mod Cases
 pub mod Run
 pub mod Table
 pub mod Right
+pub mod Choice
+pub mod Look
+pub mod Numbers
+pub mod Orderly
+pub mod Rows
+pub mod Served
+pub mod Set
+pub mod Share
+pub mod Trim
+pub mod Values

@@ -1,12 +1,11 @@
 -- The step program: what it answers to a line, and to a whole input (document 01, "The step program").
 -- Assumes nothing.
 use Prim.Native.Nat.{ℕ, _*_}
-use mathlib.Core.Bool.{Bool}
 use mathlib.Core.List.{List, [], _∷_, _++_}
 use lib.ListN.{take, drop, replicate}
 use lib.Dec.{ltb, eqb}
-use Rattle.sets.specs.Choice.{if_then_else_}
-use Rattle.rows.specs.Rows.{rowAt, valueOf}
+use Rattle.spec.specs.Choice.{if_then_else_}
+use Rattle.spec.specs.Rows.{rowAt, valueOf}
 use Rattle.spec.specs.declared.Store.{Store}
 use Rattle.spec.specs.declared.Form.{Form}
 use Rattle.spec.specs.declared.Form.the-variants.{SetUp, Begin, Read, Write, Advance, Abandon, Trim, Free, Other}

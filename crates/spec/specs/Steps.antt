@@ -6,37 +6,17 @@ use mathlib.Core.Bool.{Bool, true, false, not, _&&_}
 use mathlib.Core.List.{List, [], _∷_, _++_}
 use lib.ListN.{length, getD}
 use lib.Dec.{leb, ltb, eqb}
-use Rattle.sets.specs.Choice.{if_then_else_}
-use Rattle.sets.specs.Set.{clients, size, member, collect, strike}
-use Rattle.rows.specs.Rows.{commitRow, hasTag}
-use Rattle.search.specs.declared.Number.{Number}
-use Rattle.search.specs.declared.Number.the-variants.{Some, None}
-use Rattle.search.specs.Share.{any, shares, conflict}
+use Rattle.spec.specs.Choice.{if_then_else_}
+use Rattle.spec.specs.Set.{clients, size, member, collect, strike}
+use Rattle.spec.specs.Rows.{commitRow, hasTag}
+use Rattle.spec.specs.declared.Number.{Number}
+use Rattle.spec.specs.declared.Number.the-variants.{Some, None}
+use Rattle.spec.specs.Share.{any, shares, conflict}
 use Rattle.spec.specs.declared.Queue.{Queue}
 use Rattle.spec.specs.declared.Progress.{Progress}
 use Rattle.spec.specs.declared.Progress.the-variants.{Stage, Waiting, Conflict, Done}
 use Rattle.spec.specs.Answers.{unfit, noClient, notOpen}
-use Rattle.spec.specs.Image.{
-  Image,
-  withClients,
-  withRows,
-  withRequested,
-  withTaken,
-  withLast,
-  setStage,
-  setRequest,
-  setCommit,
-  setBlockers,
-  setAhead,
-  unlisted,
-  closed,
-  stageOf,
-  numberOf,
-  snapshotOf,
-  requestOf,
-  commitNumberOf,
-  isOpen,
-}
+use Rattle.spec.specs.Image.{Image, withClients, withRows, withRequested, withTaken, withLast, setStage, setRequest, setCommit, setBlockers, setAhead, unlisted, closed, stageOf, numberOf, snapshotOf, requestOf, commitNumberOf, isOpen}
 use Rattle.spec.specs.Calls.{Outcome, gives, refuse, top, removed}
 
 -- ---- the two queues: who is in one, and whose number is noted, is read off the stage

@@ -1,14 +1,14 @@
 -- The plain table of document 01 ("The plain table"). It is fed the calls, their arguments and their answers, never the record or the buffers.
 -- Client k, cell x, value v.
 -- Assumes nothing.
-use Prim.Native.Nat.{ℕ, zero, suc, _+_}
+use Prim.Native.Nat.{ℕ, _+_}
 use mathlib.Core.Bool.{Bool, true, false}
 use mathlib.Core.List.{List, [], _∷_, _++_}
 use mathlib.Core.Option.{Option, none, some}
 use lib.ListN.{length, getD}
 use lib.Dec.{eqb}
-use Rattle.sets.specs.Choice.{if_then_else_}
-use Rattle.rows.specs.Rows.{Row, valueOf}
+use Rattle.spec.specs.Choice.{if_then_else_}
+use Rattle.spec.specs.Rows.{Row, valueOf}
 use Rattle.spec.specs.declared.Begun.{Begun}
 use Rattle.spec.specs.declared.Reading.{Reading}
 use Rattle.spec.specs.declared.Reading.the-variants as reading

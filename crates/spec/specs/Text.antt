@@ -8,7 +8,7 @@ use mathlib.Core.Bool.{Bool, true, false}
 use mathlib.Core.List.{List, [], _∷_, _++_}
 use lib.ListN.{length, getD, drop, replicate}
 use lib.Dec.{leb, ltb, eqb}
-use Rattle.sets.specs.Choice.{if_then_else_}
+use Rattle.spec.specs.Choice.{if_then_else_}
 use Rattle.spec.specs.declared.Form.{Form}
 use Rattle.spec.specs.declared.Form.the-variants.{SetUp, Begin, Read, Write, Advance, Abandon, Trim, Free, Other}
 use Rattle.spec.specs.declared.Decimal.{Decimal}

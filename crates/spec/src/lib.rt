@@ -1,6 +1,12 @@
 // The store's record and the answers of its calls. What the calls do is defined in specs/.
-use sets::CLIENTS;
-use sets::Set;
+// How many clients there are.
+pub const CLIENTS: usize = 64;
+
+// The same, as the number that a client is compared with.
+pub const LIMIT: u32 = 64;
+
+// A set of clients, one bit a client.
+pub type Set = u64;
 
 // Cells are numbered 0 to 1,023.
 pub const CELLS: u32 = 1024;
@@ -112,6 +118,26 @@ pub struct Queue {
     pub first: u32,
     pub noted: u32,
     pub last: u32,
+}
+
+// ---- what is found in the rows
+
+// A number, if there is one.
+pub enum Number {
+    Some(u32),
+    None,
+}
+
+// Where a row is, if there is one.
+pub enum Found {
+    At(usize),
+    Missing,
+}
+
+// A data row and the number it is committed under (0 for an own write), if there is one.
+pub enum Seen {
+    Version { at: usize, number: u32 },
+    Nothing,
 }
 
 // ---- the step program

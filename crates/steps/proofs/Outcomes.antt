@@ -1,18 +1,17 @@
 -- What the steps that change rows leave, by the facts that their code has found: one law for each way in which a step ends.
 -- Assumes nothing.
-use Prim.Native.Nat.{ℕ, _+_, _*_, _≤_, _<_}
+use Prim.Native.Nat.{ℕ, _+_, _≤_, _<_}
 use mathlib.Core.Path.{_≡_, refl, sym, _∙_}
 use mathlib.Core.Bool.{not}
 use mathlib.Core.List.{List, [], _∷_, _++_}
 use borrow.Author.Tests.{le-leb, lt-leb}
 use lib.ListN.{length, getD, length-append}
-use Rattle.rows.specs.Rows.{Row, rowsIn, laid, commitRow, filter, hasTag}
-use Rattle.rows.proofs.Rows.{length-rows}
-use Rattle.rows.proofs.Laid.{laid-same}
-use Rattle.search.specs.declared.Number.{Number}
-use Rattle.search.specs.Share.{conflict}
+use Rattle.spec.specs.Rows.{Row, rowsIn, laid, commitRow, filter, hasTag}
+use Rattle.spec.proofs.Rows.{length-rows}
+use Rattle.spec.proofs.Laid.{laid-same}
+use Rattle.spec.specs.declared.Number.{Number}
+use Rattle.spec.specs.Share.{conflict}
 use Rattle.spec.specs.declared.Store.{Store}
-use Rattle.spec.specs.declared.Progress.{Progress}
 use Rattle.spec.specs.declared.Progress.the-variants.{Stage}
 use Rattle.spec.specs.Answers.{Answer, Answered, unfit}
 use Rattle.spec.specs.Image.{countersOf, setStage, closed}
@@ -20,7 +19,7 @@ use Rattle.spec.specs.Calls.{refuse, removed}
 use Rattle.spec.specs.Steps.{goOn, addCommit, checked, check}
 use Rattle.spec.specs.Bytes.{countersIn, clientsIn, recordOf, seen, storeOf, leaves, laidOut}
 use Rattle.spec.proofs.Ends.{ends}
-use Rattle.steps.specs.Removed.{Removed}
+use Rattle.steps.specs.Inner.{Removed}
 
 module _ (s : Store) (d c : List ℕ) (k : ℕ) where
   -- the committed buffer is full

@@ -1,2 +1,1 @@
-pub mod Removed
-pub mod Takes
+pub mod Inner

@@ -4,22 +4,19 @@ ghost use mathlib.Core.Bool.{true};
 ghost use mathlib.Core.List.{List};
 ghost use Prim.Native.Nat.{ℕ, _*_, _≤_, _<_};
 ghost use lib.ListN.{length};
-ghost use Rattle.sets.specs.Set.{clients};
+ghost use Rattle.spec.specs.Set.{clients};
 ghost use Rattle.spec.specs.Answers.{advanceOf};
-ghost use Rattle.spec.specs.Steps.{requests as requestQueue, commits as commitQueue, goOn, finished, advance};
-ghost use Rattle.spec.specs.Steps.{enter, takeRequest, listRequests, looked, lookRequests, check};
-ghost use Rattle.spec.specs.Steps.{takeCommit, listCommits, lookCommits, addCommit, leaveCommits, leaveRequests};
+ghost use Rattle.spec.specs.Steps.{requests as requestQueue, commits as commitQueue, goOn, finished, advance, enter, takeRequest, listRequests, looked, lookRequests, check, takeCommit, listCommits, lookCommits, addCommit, leaveCommits, leaveRequests};
 ghost use Rattle.spec.specs.Bytes.{leaves, fits, after};
-ghost use Rattle.steps.specs.Removed.{Removed};
-ghost use Rattle.steps.specs.Takes.{Takes, TakesUnseen, TakesDue};
-use search::Number;
-use sets::LIMIT;
-use sets::Set;
+ghost use Rattle.steps.specs.Inner.{Removed, Takes, TakesUnseen, TakesDue};
 use spec::AdvanceAnswer;
 use spec::AdvanceTurn;
+use spec::LIMIT;
+use spec::Number;
 use spec::Progress;
 use spec::Queue;
 use spec::Refusal;
+use spec::Set;
 use spec::Store;
 
 // The request queue: entered at stage 0, the number noted at 2, left at 13.

@@ -7,17 +7,17 @@ use mathlib.Core.List.{List}
 use native.Mathlib.Omega.{arith}
 use borrow.Author.Tests.{lt-leb, ne-eqb}
 use lib.ListN.{length, getD}
-use Rattle.sets.specs.Set.{clients}
-use Rattle.rows.specs.Rows.{Row, rowsIn, hasTag}
-use Rattle.rows.proofs.Rows.{length-rows, filter-fewer}
-use Rattle.trimming.specs.Trim.{stays, inUse, trimmedRows, trimmedCommits}
-use Rattle.trimming.specs.Trimmed.{Trimmed}
+use Rattle.spec.specs.Set.{clients}
+use Rattle.spec.specs.Rows.{Row, rowsIn, hasTag}
+use Rattle.spec.proofs.Rows.{length-rows, filter-fewer}
+use Rattle.spec.specs.Trim.{stays, inUse, trimmedRows, trimmedCommits}
+use Rattle.trimming.specs.Inner.{Trimmed}
 use Rattle.spec.specs.declared.Store.{Store}
 use Rattle.spec.specs.Answers.{Answered}
 use Rattle.spec.specs.Calls.{gives, removed, abandon, low, trimmedTo, trim}
 use Rattle.spec.specs.Bytes.{countersIn, clientsIn, recordOf, seen, storeOf, leaves, laidOut}
 use Rattle.spec.proofs.Ends.{ends}
-use Rattle.steps.specs.Removed.{Removed}
+use Rattle.steps.specs.Inner.{Removed}
 
 module _ (s : Store) (d c : List ℕ) where
   -- ---- Abandon

@@ -7,7 +7,7 @@ use mathlib.Core.List.{List}
 use native.Mathlib.Omega.{arith}
 use lib.ListN.{length}
 use borrow.Author.Tests.{ne-eqb}
-use Rattle.sets.specs.Choice.{if_then_else_}
+use Rattle.spec.specs.Choice.{if_then_else_}
 use Rattle.spec.specs.Text.{str, begins, closes, oneAt, twoAt, clientForm, readWith, writeOf, bareForm}
 use Rattle.spec.specs.declared.Form.{Form}
 use Rattle.spec.specs.declared.Form.the-variants.{Begin, Advance, Abandon, Trim, Free, Other}

@@ -12,7 +12,7 @@ use lib.ListN.{length, getD, drop, drop-of-length-le}
 use lib.Seq.{drop-cons}
 use lib.Dec.{eqb}
 use borrow.Author.Tests.{lt-ltb, le-ltb, eq-eqb, ne-eqb}
-use Rattle.sets.specs.Choice.{if_then_else_}
+use Rattle.spec.specs.Choice.{if_then_else_}
 use Rattle.spec.specs.Text.{begins, digitVal, digitsFrom, decimalFrom, decimalAt}
 use Rattle.spec.specs.declared.Decimal.the-variants.{Is, No}
 

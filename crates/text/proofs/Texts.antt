@@ -10,7 +10,7 @@ use lib.ListN.{length, getD, take, drop, set, length-set, length-drop, length-ap
 use lib.Seq.{drop-cons, take-suc, take-suc-set, take-all, drop-set-lt, getD-set-same}
 use borrow.Author.Tests.{eq-eqb, ne-eqb}
 use Rattle.spec.specs.Text.{hexDigit, hexText, decimalOn, decimalOf}
-use Rattle.text.specs.Print.{Put, Spelled}
+use Rattle.text.specs.Inner.{Put, Spelled}
 
 pub put-then : {a b d w v : List ℕ} {i j k : ℕ} → Put a i w b j → Put b j v d k → Put a i (w ++ v) d k
 put-then {a} {b} {d} {w} {v} {i} {j} {k} p q = record {

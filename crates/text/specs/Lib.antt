@@ -1,1 +1,1 @@
-pub mod Print
+pub mod Inner

@@ -8,7 +8,7 @@ ghost use mathlib.Core.Bool.{true};
 ghost use Prim.Native.Nat.{_+_, _≤_, _<_};
 ghost use lib.ListN.{length};
 ghost use Rattle.spec.specs.Text.{begins as Text·begins, stands as Text·stands, closes as Text·closes, digitVal, decimalAt, decimalOf, hexVal, hexAt, hexDigit, hexText, valueIn, oneAt, spacedAt, twoAt, setUpOf, writeOf, formIn, formOf};
-ghost use Rattle.text.specs.Print.{Put, Spelled};
+ghost use Rattle.text.specs.Inner.{Put, Spelled};
 
 // ---- bytes of a line
 

@@ -11,15 +11,15 @@ use lib.ListN.{length, getD, set, replicate, length-set, getD-replicate}
 use lib.Seq.{getD-set-same, getD-set-other}
 use native.Mathlib.Omega.{arith}
 use borrow.Author.Tests.{ltb-true, ltb-false, leb-true, eqb-true, eqb-false, lt-ltb, le-ltb, le-leb, lt-leb}
-use Rattle.sets.specs.Choice.{if_then_else_}
-use Rattle.rows.specs.Rows.{Row, rowAt, rowsIn, rowsFrom, tagOf, cellOf}
-use Rattle.rows.proofs.Rows.{rows-start}
-use Rattle.search.specs.Look.{commitOf}
-use Rattle.search.specs.Share.{any}
-use Rattle.search.specs.declared.Number.{Number}
-use Rattle.search.specs.declared.Number.the-variants.{Some, None}
-use Rattle.trimming.specs.Trim.{between, later, overtaken, stays}
-use Rattle.trimming.specs.Newest.{numberOr, Noted, Newest}
+use Rattle.spec.specs.Choice.{if_then_else_}
+use Rattle.spec.specs.Rows.{Row, rowAt, rowsIn, rowsFrom, tagOf, cellOf}
+use Rattle.spec.proofs.Rows.{rows-start}
+use Rattle.spec.specs.Look.{commitOf}
+use Rattle.spec.specs.Share.{any}
+use Rattle.spec.specs.declared.Number.{Number}
+use Rattle.spec.specs.declared.Number.the-variants.{Some, None}
+use Rattle.spec.specs.Trim.{between, later, overtaken, stays}
+use Rattle.trimming.specs.Inner.{numberOr, Noted, Newest}
 use Rattle.search.proofs.Folds.{if-same, if-itself, any-step, any-end}
 
 not-both : (b : Bool) → b ≡ false → b ≡ true → ⊥

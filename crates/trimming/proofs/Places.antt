@@ -10,12 +10,12 @@ use lib.Seq.{getD-set-same, getD-set-other}
 use native.Mathlib.Decide.{decLt, ℕ-discrete}
 use native.Mathlib.Omega.{arith}
 use borrow.Author.Tests.{eq-eqb, ne-eqb}
-use Rattle.rows.specs.Rows.{rowAt, rowsIn, tagOf, commitTag, commitNumber, hasTag}
-use Rattle.search.specs.Look.{commitOf}
-use Rattle.search.specs.Share.{any}
-use Rattle.search.specs.Passes.{Next}
-use Rattle.search.specs.declared.Number.the-variants.{Some, None}
-use Rattle.trimming.specs.Places.{place, Places}
+use Rattle.spec.specs.Rows.{rowAt, rowsIn, tagOf, commitTag, commitNumber, hasTag}
+use Rattle.spec.specs.Look.{commitOf}
+use Rattle.spec.specs.Share.{any}
+use Rattle.search.specs.Inner.{Next}
+use Rattle.spec.specs.declared.Number.the-variants.{Some, None}
+use Rattle.trimming.specs.Inner.{place, Places}
 use Rattle.search.proofs.Folds.{any-at, any-none, commit-none, commit-first}
 
 place-below : (tag : ℕ) → place tag < 4096

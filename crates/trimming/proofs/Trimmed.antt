@@ -5,14 +5,14 @@ use mathlib.Core.Path.{_≡_, refl}
 use mathlib.Core.Bool.{Bool}
 use mathlib.Core.List.{List, []}
 use lib.ListN.{length}
-use Rattle.rows.specs.Rows.{Row, rowsIn, filter}
-use Rattle.rows.proofs.Rows.{rows-wide, filter-wide}
-use Rattle.rows.proofs.Laid.{rows-laid}
-use Rattle.search.specs.Look.{commitOf}
-use Rattle.removal.specs.Kept.{keptFrom, Flags, Left}
+use Rattle.spec.specs.Rows.{Row, rowsIn, filter}
+use Rattle.spec.proofs.Rows.{rows-wide, filter-wide}
+use Rattle.spec.proofs.Laid.{rows-laid}
+use Rattle.spec.specs.Look.{commitOf}
+use Rattle.removal.specs.Inner.{keptFrom, Flags, Left}
 use Rattle.removal.proofs.Moving.{kept-where, filter-all, left-all}
-use Rattle.trimming.specs.Trim.{overtaken, stays, inUse, trimmedRows, trimmedCommits}
-use Rattle.trimming.specs.Trimmed.{Trimmed}
+use Rattle.spec.specs.Trim.{overtaken, stays, inUse, trimmedRows, trimmedCommits}
+use Rattle.trimming.specs.Inner.{Trimmed}
 
 pub trimmed : (low n m : ℕ) (s c flags marks s′ c′ : List ℕ) (n′ m′ : ℕ)
     → 24 * n ≤ length s

@@ -1,4 +1,1 @@
-pub mod Trim
-pub mod Trimmed
-pub mod Places
-pub mod Newest
+pub mod Inner

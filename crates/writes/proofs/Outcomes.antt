@@ -8,16 +8,17 @@ use native.Mathlib.Omega.{arith}
 use borrow.Author.Tests.{le-leb, lt-leb, eq-eqb, ne-eqb}
 use lib.Dec.{leb}
 use lib.ListN.{length, getD, set, length-append, length-set}
-use Rattle.sets.specs.Set.{clients}
-use Rattle.rows.specs.Rows.{Row, rowsIn, laid, dataRow, withValue}
-use Rattle.rows.proofs.Rows.{length-rows}
-use Rattle.rows.proofs.Laid.{laid-same}
-use Rattle.search.specs.declared.Found.{Found}
-use Rattle.search.specs.declared.Found.the-variants.{At, Missing}
+use Rattle.spec.specs.Set.{clients}
+use Rattle.spec.specs.Rows.{Row, rowsIn, laid, dataRow, withValue}
+use Rattle.spec.proofs.Rows.{length-rows}
+use Rattle.spec.proofs.Laid.{laid-same}
+use Rattle.spec.specs.declared.Found.{Found}
+use Rattle.spec.specs.declared.Found.the-variants.{At, Missing}
 use Rattle.search.specs.declared.Own.{Own}
 use Rattle.search.specs.declared.Own.the-variants.{Row as OwnRow, Rows as OwnRows}
-use Rattle.search.specs.Look.{isOwn, find}
-use Rattle.search.specs.Share.{cellsOf, rowOrCount}
+use Rattle.spec.specs.Look.{isOwn, find}
+use Rattle.spec.specs.Share.{cellsOf}
+use Rattle.search.specs.Inner.{rowOrCount}
 use Rattle.search.proofs.Below.{find-below}
 use Rattle.spec.specs.declared.Store.{Store}
 use Rattle.spec.specs.Answers.{Answered, cellLimit, noFreeRow}

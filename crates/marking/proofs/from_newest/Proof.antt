@@ -5,12 +5,12 @@ use lib.ListN.{getD}
 use borrow.Author.Needs.{needs}
 use borrow.Author.Tests.{not-true, not-false}
 use native.Mathlib.Omega.{arith}
-use Rattle.rows.specs.Rows.{rowsIn}
-use Rattle.search.specs.Passes.{Next}
-use Rattle.orderly.specs.Chains.{rowEntry}
-use Rattle.orderly.specs.Orderly.{orderlyCommits, orderlyRows}
-use Rattle.marking.specs.Served.{Marks}
-use Rattle.marking.specs.SoFar.{Judged, Used}
+use Rattle.spec.specs.Rows.{rowsIn}
+use Rattle.search.specs.Inner.{Next}
+use Rattle.orderly.specs.Inner.{rowEntry}
+use Rattle.spec.specs.Orderly.{orderlyCommits, orderlyRows}
+use Rattle.spec.specs.Served.{Marks}
+use Rattle.marking.specs.Inner.{Judged, Used}
 use Rattle.orderly.proofs.Order.{differ, disorder-commits, disorder-rows, decided}
 use Rattle.orderly.proofs.Entries.{entries-alike, entries-open}
 use Rattle.marking.proofs.Marking.{marks-start, plain-start, judged-start, used-start, all-plain}

@@ -9,9 +9,9 @@ use lib.Dec.{leb}
 use borrow.Author.Needs.{needs}
 use borrow.Author.Tests.{le-leb, lt-leb}
 use native.Mathlib.Omega.{arith}
-use Rattle.rows.specs.Rows.{rowAt, rowsIn, tagOf, cellOf, commitTag, commitNumber}
-use Rattle.orderly.specs.Chains.{rowEntry, Chain}
-use Rattle.orderly.specs.Orderly.{orderlyCommits}
+use Rattle.spec.specs.Rows.{rowAt, rowsIn, tagOf, cellOf, commitTag, commitNumber}
+use Rattle.orderly.specs.Inner.{rowEntry, Chain}
+use Rattle.spec.specs.Orderly.{orderlyCommits}
 use Rattle.orderly.proofs.Chains.{chain-start, chain-more, chain-rises, chain-carry, head-carry}
 use Rattle.orderly.proofs.Order.{differ, displain, plain-large}
 use Rattle.orderly.proofs.Entries.{entry-tag, entry-of-tag}

@@ -3,8 +3,8 @@ use Prim.Native.Nat.{_+_, _-_, _≤_}
 use mathlib.Core.Path.{_≡_, refl}
 use borrow.Author.Needs.{needs}
 use native.Mathlib.Omega.{arith}
-use Rattle.marking.specs.Served.{Marks}
-use Rattle.marking.specs.SoFar.{SoFar, Judged, Used}
+use Rattle.spec.specs.Served.{Marks}
+use Rattle.marking.specs.Inner.{SoFar, Judged, Used}
 use Rattle.orderly.proofs.Order.{differ}
 use Rattle.marking.proofs.serve_all.Statement.{statement}
 use Rattle.marking.proofs.serve_all.Tie as tie

@@ -4,10 +4,10 @@ use mathlib.Core.Path.{_≡_, sym, ap, _∙_}
 use borrow.Author.Needs.{needs}
 use native.Mathlib.Omega.{arith}
 use lib.ListN.{getD}
-use Rattle.rows.specs.Rows.{rowAt, commitTag}
+use Rattle.spec.specs.Rows.{rowAt, commitTag}
 use Rattle.search.proofs.Passes.{miss-more}
-use Rattle.trimming.specs.Places.{place}
-use Rattle.orderly.specs.Chains.{tagPlace, Chain}
+use Rattle.trimming.specs.Inner.{place}
+use Rattle.orderly.specs.Inner.{tagPlace, Chain}
 use Rattle.orderly.proofs.Chains.{chain-more, chain-rises, chain-carry}
 use Rattle.orderly.proofs.chained_entry.Statement.{statement}
 use Rattle.orderly.proofs.chained_entry.Tie as tie

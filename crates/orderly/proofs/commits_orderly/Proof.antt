@@ -7,12 +7,12 @@ use lib.Dec.{ltb}
 use borrow.Author.Needs.{needs}
 use borrow.Author.Tests.{lt-ltb, le-ltb}
 use native.Mathlib.Omega.{arith}
-use Rattle.rows.specs.Rows.{rowAt, rowsFrom, commitTag, commitNumber}
-use Rattle.rows.proofs.Rows.{rows-start}
-use Rattle.search.specs.Share.{any}
-use Rattle.trimming.specs.Places.{place}
-use Rattle.orderly.specs.Chains.{tagPlace, Linked, Chain}
-use Rattle.orderly.specs.Orderly.{under, commits, orderlyCommits}
+use Rattle.spec.specs.Rows.{rowAt, rowsFrom, commitTag, commitNumber}
+use Rattle.spec.proofs.Rows.{rows-start}
+use Rattle.spec.specs.Share.{any}
+use Rattle.trimming.specs.Inner.{place}
+use Rattle.orderly.specs.Inner.{tagPlace, Linked, Chain}
+use Rattle.spec.specs.Orderly.{under, commits, orderlyCommits}
 use Rattle.orderly.proofs.Chains.{linked-none, chain-start}
 use Rattle.orderly.proofs.Entries.{from-head, tag-next}
 use Rattle.orderly.proofs.Order.{differ, disorder, order-low, order-again, order-more, order-end, under-end, under-step}

@@ -4,8 +4,8 @@ use mathlib.Core.Path.{_≡_, sym, ap, _∙_}
 use lib.ListN.{length, getD, length-set}
 use borrow.Author.Needs.{needs}
 use native.Mathlib.Omega.{arith}
-use Rattle.rows.specs.Rows.{rowsIn}
-use Rattle.orderly.specs.Chains.{entryOf, rowEntry, Linked}
+use Rattle.spec.specs.Rows.{rowsIn}
+use Rattle.orderly.specs.Inner.{entryOf, rowEntry, Linked}
 use Rattle.orderly.proofs.Chains.{linked-none}
 use Rattle.orderly.proofs.Entries.{entry-next, stored-less}
 use Rattle.orderly.proofs.link_rows.Statement.{statement}

@@ -5,10 +5,10 @@ use mathlib.Core.Logic.{⊎-elim}
 use borrow.Author.Needs.{needs}
 use native.Mathlib.Omega.{arith}
 use lib.ListN.{getD}
-use Rattle.rows.specs.Rows.{rowAt, rowsFrom, tagOf, cellOf}
-use Rattle.search.specs.Share.{wrote}
+use Rattle.spec.specs.Rows.{rowAt, rowsFrom, tagOf, cellOf}
+use Rattle.spec.specs.Share.{wrote}
 use Rattle.search.proofs.Folds.{wrote-end}
-use Rattle.orderly.specs.Chains.{PairWalk}
+use Rattle.orderly.specs.Inner.{PairWalk}
 use Rattle.orderly.proofs.Chains.{chain-more, chain-rises, chain-skip}
 use Rattle.orderly.proofs.Walks.{own-miss, own-here}
 use Rattle.orderly.proofs.own_chained.Statement.{statement}

@@ -2,7 +2,7 @@
 use mathlib.Core.Path.{refl}
 use borrow.Author.Needs.{needs}
 use native.Mathlib.Omega.{arith}
-use Rattle.orderly.specs.Chains.{pairPlace}
+use Rattle.orderly.specs.Inner.{pairPlace}
 use Rattle.orderly.proofs.pair_place.Statement.{statement}
 use Rattle.orderly.proofs.pair_place.Tie as tie
 

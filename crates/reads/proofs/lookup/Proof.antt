@@ -2,7 +2,7 @@
 -- Assumes nothing.
 use mathlib.Core.Path.{ap}
 use borrow.Author.Needs.{needs}
-use Rattle.reads.specs.Values.{valueFrom}
+use Rattle.spec.specs.Values.{valueFrom}
 use Rattle.reads.proofs.lookup.Statement.{statement}
 use Rattle.reads.proofs.lookup.Tie as tie
 

@@ -3,7 +3,7 @@
 use native.Mathlib.Omega.{arith}
 use borrow.Author.Needs.{needs}
 use borrow.Author.Tests.{lt-leb, le-leb}
-use Rattle.reads.specs.Values.{valueRead}
+use Rattle.spec.specs.Values.{valueRead}
 use Rattle.reads.proofs.value.Statement.{statement}
 use Rattle.reads.proofs.value.Tie as tie
 

@@ -6,7 +6,7 @@ use native.Mathlib.Omega.{arith}
 use native.Mathlib.Numerals.{add-one}
 use borrow.Author.Needs.{needs}
 use lib.ListN.{length}
-use Rattle.sets.specs.Set.{clients, remove}
+use Rattle.spec.specs.Set.{clients, remove}
 use Rattle.spec.specs.Image.{cleared}
 use Rattle.record.proofs.Loops.{mapTo, mapTo-step, mapTo-all}
 use Rattle.record.proofs.clear_all.Statement.{statement}

@@ -1,6 +1,5 @@
 -- `record::in_queue`: two tests, in the definition's order.
 -- Assumes nothing.
-use Prim.Native.Nat.{_-_}
 use borrow.Author.Tests.{lt-ltb, le-ltb}
 use Rattle.spec.specs.Steps.{queued}
 use Rattle.record.proofs.in_queue.Statement.{statement}

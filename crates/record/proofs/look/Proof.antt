@@ -7,7 +7,7 @@ use native.Mathlib.Omega.{arith}
 use native.Mathlib.Numerals.{add-one}
 use borrow.Author.Needs.{needs}
 use lib.ListN.{getD}
-use Rattle.sets.specs.Set.{clients, remove, strike}
+use Rattle.spec.specs.Set.{clients, remove, strike}
 use Rattle.spec.specs.Steps.{struck}
 use Rattle.record.proofs.Loops.{strike-none}
 use Rattle.record.proofs.look.Statement.{statement}

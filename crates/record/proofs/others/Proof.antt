@@ -7,8 +7,8 @@ use native.Mathlib.Omega.{arith}
 use native.Mathlib.Numerals.{add-one}
 use borrow.Author.Needs.{needs}
 use lib.ListN.{getD}
-use Rattle.sets.specs.Set.{clients, insert, remove, collect}
-use Rattle.sets.specs.Laws.{collect-others}
+use Rattle.spec.specs.Set.{clients, insert, remove, collect}
+use Rattle.spec.proofs.Sets.{collect-others}
 use Rattle.spec.specs.Steps.{queued}
 use Rattle.record.proofs.others.Statement.{statement}
 use Rattle.record.proofs.others.Tie as tie

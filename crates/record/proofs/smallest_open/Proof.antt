@@ -5,8 +5,8 @@ use Prim.Native.Nat.{_≤_, _-_}
 use native.Mathlib.Omega.{arith}
 use native.Mathlib.Numerals.{add-one}
 use borrow.Author.Needs.{needs}
-use Rattle.sets.specs.Set.{clients}
-use Rattle.search.specs.Numbers.{smallest}
+use Rattle.spec.specs.Set.{clients}
+use Rattle.spec.specs.Numbers.{smallest}
 use Rattle.spec.specs.Image.{Image}
 use Rattle.spec.specs.Calls.{readers}
 use Rattle.record.proofs.smallest_open.Statement.{statement}

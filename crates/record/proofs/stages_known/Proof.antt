@@ -8,7 +8,7 @@ use native.Mathlib.Numerals.{add-one}
 use borrow.Author.Needs.{needs}
 use borrow.Author.Tests.{lt-ltb, le-ltb}
 use lib.ListN.{getD}
-use Rattle.sets.specs.Set.{clients}
+use Rattle.spec.specs.Set.{clients}
 use Rattle.spec.specs.Bytes.{known}
 use Rattle.record.proofs.stages_known.Statement.{statement}
 use Rattle.record.proofs.stages_known.Tie as tie

@@ -4,7 +4,7 @@ use mathlib.Core.Path.{_≡_, refl, _∙_}
 use lib.ListN.{length}
 use borrow.Author.Needs.{needs}
 use native.Mathlib.Omega.{arith}
-use Rattle.rows.specs.Rows.{part, spliced}
+use Rattle.spec.specs.Rows.{part, spliced}
 use Rattle.removal.proofs.Moving.{moved-more, moved-none}
 use Rattle.removal.proofs.move_row.Statement.{statement}
 use Rattle.removal.proofs.move_row.Tie as tie

@@ -4,9 +4,9 @@ use mathlib.Core.Path.{_≡_}
 use lib.ListN.{length, getD, length-set, getD-replicate}
 use borrow.Author.Needs.{needs}
 use native.Mathlib.Omega.{arith}
-use Rattle.sets.specs.Choice.{if_then_else_}
-use Rattle.rows.specs.Rows.{rowAt}
-use Rattle.removal.specs.Kept.{otherTag}
+use Rattle.spec.specs.Choice.{if_then_else_}
+use Rattle.spec.specs.Rows.{rowAt}
+use Rattle.removal.specs.Inner.{otherTag}
 use Rattle.removal.proofs.Moving.{other-yes, stored-more}
 use Rattle.removal.proofs.other_flags.Statement.{statement}
 use Rattle.removal.proofs.other_flags.Tie as tie

@@ -1,7 +1,7 @@
 -- Where the transaction has no row all stay; else the rows of others are kept.
 use borrow.Author.Needs.{needs}
 use native.Mathlib.Omega.{arith}
-use Rattle.removal.specs.Kept.{otherTag}
+use Rattle.removal.specs.Inner.{otherTag}
 use Rattle.removal.proofs.Moving.{kept-where, filter-all, left-all, flag-stays, other-yes}
 use Rattle.removal.proofs.remove_rows.Statement.{statement}
 use Rattle.removal.proofs.remove_rows.Tie as tie

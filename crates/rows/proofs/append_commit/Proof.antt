@@ -1,8 +1,7 @@
 use mathlib.Core.Path.{sym, _∙_}
-use Rattle.rows.proofs.Laid.{laid-append}
-use Rattle.rows.proofs.Bytes.{length-commitRow}
-use Rattle.rows.specs.Rows.{commitRow}
-use Rattle.rows.proofs.Bytes.{lent-tail}
+use Rattle.spec.proofs.Laid.{laid-append}
+use Rattle.spec.proofs.Bytes.{length-commitRow, lent-tail}
+use Rattle.spec.specs.Rows.{commitRow}
 use native.Mathlib.Omega.{arith}
 use Prim.Native.Nat.{_*_}
 use borrow.Author.Needs.{needs}

@@ -1,9 +1,9 @@
 use mathlib.Core.Path.{sym, _∙_}
-use Rattle.rows.proofs.Laid.{laid-append}
+use Rattle.spec.proofs.Laid.{laid-append}
 use Prim.Native.Nat.{_*_}
 use native.Mathlib.Omega.{arith}
-use Rattle.rows.proofs.Bytes.{lent-tail, length-dataRow}
-use Rattle.rows.specs.Rows.{dataRow}
+use Rattle.spec.proofs.Bytes.{lent-tail, length-dataRow}
+use Rattle.spec.specs.Rows.{dataRow}
 use borrow.Author.Needs.{needs}
 use Rattle.rows.proofs.append_row.Statement.{statement}
 use Rattle.rows.proofs.append_row.Tie as tie

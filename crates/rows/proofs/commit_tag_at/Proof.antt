@@ -1,7 +1,7 @@
 use mathlib.Core.Path.{_∙_}
 use lib.Dec.{lit≤}
-use Rattle.rows.specs.Rows.{commitTag}
-use Rattle.rows.proofs.Rows.{field}
+use Rattle.spec.specs.Rows.{commitTag}
+use Rattle.spec.proofs.Rows.{field}
 use borrow.Author.Needs.{needs}
 use Rattle.rows.proofs.commit_tag_at.Statement.{statement}
 use Rattle.rows.proofs.commit_tag_at.Tie as tie

@@ -1,8 +1,8 @@
 use borrow.Author.Needs.{needs}
 use native.Mathlib.Omega.{arith}
 use lib.ListN.{length-set}
-use Rattle.rows.proofs.Bytes.{spliced-four}
-use Rattle.rows.specs.Rows.{bytesOf}
+use Rattle.spec.proofs.Bytes.{spliced-four}
+use Rattle.spec.specs.Rows.{bytesOf}
 use Rattle.rows.proofs.put_u32.Statement.{statement}
 use Rattle.rows.proofs.put_u32.Tie as tie
 

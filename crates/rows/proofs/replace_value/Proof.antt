@@ -1,8 +1,7 @@
-use Prim.Native.Nat.{_*_, _+_}
 use mathlib.Core.Path.{sym, _∙_}
 use native.Mathlib.Omega.{arith}
-use Rattle.rows.specs.Rows.{withValue}
-use Rattle.rows.proofs.Laid.{laid-set}
+use Rattle.spec.specs.Rows.{withValue}
+use Rattle.spec.proofs.Laid.{laid-set}
 use borrow.Author.Needs.{needs}
 use Rattle.rows.proofs.replace_value.Statement.{statement}
 use Rattle.rows.proofs.replace_value.Tie as tie

@@ -1,6 +1,6 @@
 use borrow.Author.Needs.{needs}
 use native.Mathlib.Omega.{arith}
-use Rattle.rows.proofs.Bytes.{number-two}
+use Rattle.spec.proofs.Bytes.{number-two}
 use Rattle.rows.proofs.u16_at.Statement.{statement}
 use Rattle.rows.proofs.u16_at.Tie as tie
 

@@ -1,6 +1,6 @@
 use borrow.Author.Needs.{needs}
 use native.Mathlib.Omega.{arith}
-use Rattle.rows.proofs.Bytes.{number-four}
+use Rattle.spec.proofs.Bytes.{number-four}
 use Rattle.rows.proofs.u32_at.Statement.{statement}
 use Rattle.rows.proofs.u32_at.Tie as tie
 

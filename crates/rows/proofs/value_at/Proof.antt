@@ -1,4 +1,4 @@
-use Rattle.rows.proofs.Rows.{value-part}
+use Rattle.spec.proofs.Rows.{value-part}
 use native.Mathlib.Nat.{add-sub-cancel-left}
 use borrow.Author.Needs.{needs}
 use Rattle.rows.proofs.value_at.Statement.{statement}

@@ -1,4 +1,4 @@
-use Rattle.rows.proofs.Bytes.{commit-written}
+use Rattle.spec.proofs.Bytes.{commit-written}
 use borrow.Author.Needs.{needs}
 use Rattle.rows.proofs.write_commit.Statement.{statement}
 use Rattle.rows.proofs.write_commit.Tie as tie

@@ -2,7 +2,7 @@
 use native.Mathlib.Omega.{arith}
 use borrow.Author.Needs.{needs}
 use borrow.Author.Tests.{lt-ltb, le-ltb}
-use Rattle.search.specs.Numbers.{above}
+use Rattle.spec.specs.Numbers.{above}
 use Rattle.search.proofs.above_of.Statement.{statement}
 use Rattle.search.proofs.above_of.Tie as tie
 

@@ -5,9 +5,9 @@ use native.Mathlib.Omega.{arith}
 use lib.Dec.{ltb}
 use borrow.Author.Needs.{needs}
 use borrow.Author.Tests.{lt-ltb, le-ltb}
-use Rattle.rows.specs.Rows.{rowAt, rowsIn, rowsFrom, commitNumber}
-use Rattle.rows.proofs.Rows.{rows-start}
-use Rattle.search.specs.Share.{any}
+use Rattle.spec.specs.Rows.{rowAt, rowsIn, rowsFrom, commitNumber}
+use Rattle.spec.proofs.Rows.{rows-start}
+use Rattle.spec.specs.Share.{any}
 use Rattle.search.proofs.Folds.{any-step, any-end}
 use Rattle.search.proofs.any_above.Statement.{statement}
 use Rattle.search.proofs.any_above.Tie as tie

@@ -4,10 +4,10 @@ use mathlib.Core.Path.{_≡_, sym, ap, _∙_}
 use native.Mathlib.Omega.{arith}
 use lib.ListN.{length, getD, getD-replicate}
 use borrow.Author.Needs.{needs}
-use Rattle.sets.specs.Choice.{if_then_else_}
-use Rattle.rows.specs.Rows.{rowAt, rowsIn, rowsFrom, tagOf, cellOf}
-use Rattle.rows.proofs.Rows.{rows-start}
-use Rattle.search.specs.Share.{wrote}
+use Rattle.spec.specs.Choice.{if_then_else_}
+use Rattle.spec.specs.Rows.{rowAt, rowsIn, rowsFrom, tagOf, cellOf}
+use Rattle.spec.proofs.Rows.{rows-start}
+use Rattle.spec.specs.Share.{wrote}
 use Rattle.search.proofs.Passes.{skip}
 use Rattle.search.proofs.Folds.{wrote-end}
 use Rattle.search.proofs.Marks.{marked, length-marked, mark-hit, mark-miss}

@@ -4,10 +4,10 @@ use mathlib.Core.Path.{_≡_, sym, ap, _∙_}
 use native.Mathlib.Omega.{arith}
 use borrow.Author.Needs.{needs}
 use borrow.Author.Tests.{eq-eqb, ne-eqb}
-use Rattle.rows.specs.Rows.{rowsIn, rowsFrom}
-use Rattle.rows.proofs.Rows.{rows-start, rows-step, rows-end}
-use Rattle.search.specs.Look.{commitOf}
-use Rattle.search.specs.declared.Number.the-variants.{Some}
+use Rattle.spec.specs.Rows.{rowsIn, rowsFrom}
+use Rattle.spec.proofs.Rows.{rows-start, rows-step, rows-end}
+use Rattle.spec.specs.Look.{commitOf}
+use Rattle.spec.specs.declared.Number.the-variants.{Some}
 use Rattle.search.proofs.commit_of.Statement.{statement}
 use Rattle.search.proofs.commit_of.Tie as tie
 

@@ -5,8 +5,8 @@ use mathlib.Core.Logic.{⊎-elim}
 use native.Mathlib.Omega.{arith}
 use borrow.Author.Needs.{needs}
 use borrow.Author.Tests.{not-true}
-use Rattle.rows.specs.Rows.{rowsIn}
-use Rattle.search.specs.Share.{conflict}
+use Rattle.spec.specs.Rows.{rowsIn}
+use Rattle.spec.specs.Share.{conflict}
 use Rattle.search.proofs.Clashes.{conflict-none, clashRest, clash-start, clash-hit, clash-miss, clash-end}
 use Rattle.search.proofs.conflict.Statement.{statement}
 use Rattle.search.proofs.conflict.Tie as tie

@@ -3,9 +3,9 @@ use Prim.Native.Nat.{_≤_, _<_, _-_, _+_}
 use mathlib.Core.Path.{_≡_, ap}
 use native.Mathlib.Omega.{arith}
 use borrow.Author.Needs.{needs}
-use Rattle.rows.specs.Rows.{rowAt, rowsIn, rowsFrom, tagOf}
-use Rattle.rows.proofs.Rows.{rows-start}
-use Rattle.search.specs.Share.{cellsOf}
+use Rattle.spec.specs.Rows.{rowAt, rowsIn, rowsFrom, tagOf}
+use Rattle.spec.proofs.Rows.{rows-start}
+use Rattle.spec.specs.Share.{cellsOf}
 use Rattle.search.proofs.Passes.{skip}
 use Rattle.search.proofs.Folds.{last-one, cells-hit, cells-miss, cells-end}
 use Rattle.search.proofs.count_cells.Statement.{statement}

@@ -4,8 +4,8 @@ use mathlib.Core.Path.{_≡_, sym, _∙_}
 use mathlib.Core.Bool.{or-true, or-false}
 use native.Mathlib.Omega.{arith}
 use borrow.Author.Needs.{needs}
-use Rattle.rows.specs.Rows.{rowsIn, hasTag}
-use Rattle.search.specs.Share.{any}
+use Rattle.spec.specs.Rows.{rowsIn, hasTag}
+use Rattle.spec.specs.Share.{any}
 use Rattle.search.proofs.Folds.{tag-yes, tag-no, any-last}
 use Rattle.search.proofs.has_rows.Statement.{statement}
 use Rattle.search.proofs.has_rows.Tie as tie

@@ -2,9 +2,9 @@
 use mathlib.Core.Path.{_∙_}
 use native.Mathlib.Omega.{arith}
 use borrow.Author.Needs.{needs}
-use Rattle.rows.specs.Rows.{rowsIn}
-use Rattle.rows.proofs.Rows.{rows-start}
-use Rattle.search.specs.Share.{wrote}
+use Rattle.spec.specs.Rows.{rowsIn}
+use Rattle.spec.proofs.Rows.{rows-start}
+use Rattle.spec.specs.Share.{wrote}
 use Rattle.search.proofs.Marks.{from-mark}
 use Rattle.search.proofs.has_written.Statement.{statement}
 use Rattle.search.proofs.has_written.Tie as tie

@@ -1,6 +1,6 @@
 -- `search::lesser_of` goes by the cases of its definition.
 use borrow.Author.Needs.{needs}
-use Rattle.search.specs.Numbers.{lesser}
+use Rattle.spec.specs.Numbers.{lesser}
 use Rattle.search.proofs.lesser_of.Statement.{statement}
 use Rattle.search.proofs.lesser_of.Tie as tie
 

@@ -2,7 +2,7 @@
 use native.Mathlib.Omega.{arith}
 use borrow.Author.Needs.{needs}
 use borrow.Author.Tests.{lt-ltb, le-ltb}
-use Rattle.search.specs.Numbers.{lesser}
+use Rattle.spec.specs.Numbers.{lesser}
 use Rattle.search.proofs.lesser_than.Statement.{statement}
 use Rattle.search.proofs.lesser_than.Tie as tie
 

@@ -3,9 +3,9 @@ use Prim.Native.Nat.{_≤_, _<_, _-_}
 use mathlib.Core.Path.{_≡_, sym, _∙_}
 use native.Mathlib.Omega.{arith}
 use borrow.Author.Needs.{needs}
-use Rattle.rows.specs.Rows.{rowAt, rowsIn, cellOf}
-use Rattle.search.specs.declared.Seen.the-variants.{Nothing}
-use Rattle.search.specs.Look.{lookFor}
+use Rattle.spec.specs.Rows.{rowAt, rowsIn, cellOf}
+use Rattle.spec.specs.declared.Seen.the-variants.{Nothing}
+use Rattle.spec.specs.Look.{lookFor}
 use Rattle.search.proofs.Passes.{skip}
 use Rattle.search.proofs.Rest.{readRest, read-start, read-skip, read-own, read-other, read-end}
 use Rattle.search.proofs.look_for.Statement.{statement}

@@ -1,7 +1,7 @@
 -- `search::newer_of` goes by the cases of its definition.
 use mathlib.Core.Path.{sym}
 use borrow.Author.Needs.{needs}
-use Rattle.search.specs.Look.{seenAt}
+use Rattle.spec.specs.Look.{seenAt}
 use Rattle.search.proofs.Folds.{newer-none}
 use Rattle.search.proofs.newer_of.Statement.{statement}
 use Rattle.search.proofs.newer_of.Tie as tie

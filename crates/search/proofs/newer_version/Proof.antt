@@ -2,7 +2,7 @@
 use native.Mathlib.Omega.{arith}
 use borrow.Author.Needs.{needs}
 use borrow.Author.Tests.{lt-ltb, le-ltb}
-use Rattle.search.specs.Look.{newer}
+use Rattle.spec.specs.Look.{newer}
 use Rattle.search.proofs.newer_version.Statement.{statement}
 use Rattle.search.proofs.newer_version.Tie as tie
 

@@ -3,9 +3,10 @@ use Prim.Native.Nat.{_≤_, _<_, _-_, _+_}
 use mathlib.Core.Path.{_≡_, sym, _∙_}
 use native.Mathlib.Omega.{arith}
 use borrow.Author.Needs.{needs}
-use Rattle.rows.specs.Rows.{rowAt, rowsIn, tagOf, hasTag}
-use Rattle.search.specs.Look.{isOwn, find}
-use Rattle.search.specs.Share.{count, rowOrCount}
+use Rattle.spec.specs.Rows.{rowAt, rowsIn, tagOf, hasTag}
+use Rattle.spec.specs.Look.{isOwn, find}
+use Rattle.spec.specs.Share.{count}
+use Rattle.search.specs.Inner.{rowOrCount}
 use Rattle.search.proofs.Passes.{skip}
 use Rattle.search.proofs.Rest.{ownRest, own-start, own-skip, own-found, own-other, own-end}
 use Rattle.search.proofs.own_row.Statement.{statement}

@@ -3,7 +3,7 @@ use Prim.Native.Nat.{_<_, _-_, _^_}
 use mathlib.Core.Logic.{⊎-elim}
 use native.Mathlib.Omega.{arith}
 use borrow.Author.Needs.{needs}
-use Rattle.sets.specs.Set.{clients}
+use Rattle.spec.specs.Set.{clients}
 use Rattle.search.proofs.Sharing.{Shared, share-none, share-start, share-hit, share-miss, share-end}
 use Rattle.search.proofs.sharers.Statement.{statement}
 use Rattle.search.proofs.sharers.Tie as tie

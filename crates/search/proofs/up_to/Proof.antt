@@ -2,7 +2,7 @@
 use native.Mathlib.Omega.{arith}
 use borrow.Author.Needs.{needs}
 use borrow.Author.Tests.{le-leb, lt-leb}
-use Rattle.search.specs.Numbers.{upTo}
+use Rattle.spec.specs.Numbers.{upTo}
 use Rattle.search.proofs.up_to.Statement.{statement}
 use Rattle.search.proofs.up_to.Tie as tie
 

@@ -6,7 +6,7 @@ use native.Mathlib.Omega.{arith}
 use lib.Dec.{eqb, ltb}
 use lib.ListN.{getD}
 use borrow.Author.Needs.{needs}
-use Rattle.sets.specs.Set.{clients, member}
+use Rattle.spec.specs.Set.{clients, member}
 use Rattle.search.proofs.Sharing.{put-start, put-more, put-end}
 use Rattle.search.proofs.with_writers.Statement.{statement}
 use Rattle.search.proofs.with_writers.Tie as tie

@@ -4,8 +4,8 @@ use mathlib.Core.Path.{_≡_, sym, _∙_}
 use native.Mathlib.Omega.{arith}
 use borrow.Author.Needs.{needs}
 use borrow.Author.Tests.{eq-eqb, ne-eqb}
-use Rattle.rows.specs.Rows.{rowAt, rowsFrom, tagOf}
-use Rattle.search.specs.Share.{wrote}
+use Rattle.spec.specs.Rows.{rowAt, rowsFrom, tagOf}
+use Rattle.spec.specs.Share.{wrote}
 use Rattle.search.proofs.Passes.{skip}
 use Rattle.search.proofs.Folds.{wrote-hit, wrote-miss, wrote-end}
 use Rattle.search.proofs.wrote_from.Statement.{statement}

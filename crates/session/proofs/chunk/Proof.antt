@@ -1,6 +1,6 @@
 -- What is left to say, behind what was said, is all that is to be said.
 -- Assumes nothing.
-use Prim.Native.Nat.{_+_, _-_, _≤_, _<_}
+use Prim.Native.Nat.{_-_, _≤_, _<_}
 use mathlib.Core.Path.{_≡_, _∙_, refl, sym}
 use mathlib.Core.Logic.{inl, inr}
 use mathlib.Core.List.{_++_}
@@ -8,8 +8,7 @@ use native.Mathlib.Omega.{arith}
 use borrow.Author.Needs.{needs}
 use lib.ListN.{length, take, drop}
 use Rattle.spec.specs.Session.{worldOf, answers}
-use Rattle.session.specs.Lines.{linesOf}
-use Rattle.session.specs.Spoken.{worldAfter}
+use Rattle.session.specs.Inner.{linesOf, worldAfter}
 use Rattle.session.proofs.Chunks.{newline-end, text-more, state-more}
 use Rattle.session.proofs.chunk.Statement.{statement}
 use Rattle.session.proofs.chunk.Tie as tie

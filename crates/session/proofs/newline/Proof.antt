@@ -5,7 +5,7 @@ use mathlib.Core.Path.{_≡_, _∙_, refl, sym}
 use native.Mathlib.Omega.{arith}
 use borrow.Author.Needs.{needs}
 use lib.ListN.{length, drop}
-use Rattle.session.specs.Lines.{newlineFrom}
+use Rattle.session.specs.Inner.{newlineFrom}
 use Rattle.session.proofs.Chunks.{newline-end, newline-found, newline-more}
 use Rattle.session.proofs.newline.Statement.{statement}
 use Rattle.session.proofs.newline.Tie as tie

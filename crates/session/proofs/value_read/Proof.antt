@@ -1,6 +1,6 @@
 -- Each arm is the definition's.
 -- Assumes nothing.
-use Rattle.reads.specs.Values.{valueFrom}
+use Rattle.spec.specs.Values.{valueFrom}
 use borrow.Author.Needs.{needs}
 use Rattle.session.proofs.value_read.Statement.{statement}
 use Rattle.session.proofs.value_read.Tie as tie

@@ -3,9 +3,9 @@
 use native.Mathlib.Omega.{arith}
 use borrow.Author.Needs.{needs}
 use lib.ListN.{getD}
-use Rattle.rows.specs.Rows.{rowsIn}
-use Rattle.rows.proofs.Rows.{length-rows, filter-fewer}
-use Rattle.removal.specs.Kept.{otherTag}
+use Rattle.spec.specs.Rows.{rowsIn}
+use Rattle.spec.proofs.Rows.{length-rows, filter-fewer}
+use Rattle.removal.specs.Inner.{otherTag}
 use Rattle.spec.specs.Calls.{removed}
 use Rattle.spec.specs.Bytes.{seen, storeOf}
 use Rattle.steps.proofs.Outcomes.{removed-store}

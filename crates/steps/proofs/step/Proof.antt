@@ -4,11 +4,10 @@ use mathlib.Core.Path.{_≡_, refl, sym}
 use Prim.Native.Nat.{ℕ, suc, zero-le, _≤_}
 use native.Mathlib.Omega.{arith}
 use borrow.Author.Needs.{needs}
-use lib.ListN.{getD}
+use lib.ListN.{getD, List·getD-eq-default}
 use Rattle.spec.specs.Steps.{steps, noStep}
 use Rattle.spec.proofs.Ends.{fit-of, stays}
 use lib.Arith.{lt-of-le-ne}
-use lib.ListN.{List·getD-eq-default}
 use Rattle.steps.proofs.step.Statement.{statement}
 use Rattle.steps.proofs.step.Tie as tie
 

@@ -4,7 +4,7 @@ use mathlib.Core.Path.{sym, _∙_}
 use native.Mathlib.Omega.{arith}
 use borrow.Author.Needs.{needs}
 use borrow.Author.Tests.{not-true, not-false}
-use Rattle.rows.proofs.Rows.{length-rows}
+use Rattle.spec.proofs.Rows.{length-rows}
 use Rattle.spec.specs.Calls.{free}
 use Rattle.spec.specs.Bytes.{seen}
 use Rattle.spec.proofs.Ends.{fit-of, ends-unfit, settles}

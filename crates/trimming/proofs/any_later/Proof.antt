@@ -4,11 +4,11 @@ use mathlib.Core.Path.{_≡_, sym, ap, _∙_}
 use mathlib.Core.List.{List}
 use borrow.Author.Needs.{needs}
 use native.Mathlib.Omega.{arith}
-use Rattle.rows.specs.Rows.{Row, rowsIn, rowsFrom}
-use Rattle.rows.proofs.Rows.{rows-start}
-use Rattle.search.specs.Share.{any}
-use Rattle.trimming.specs.Trim.{later}
-use Rattle.trimming.specs.Newest.{Numbers}
+use Rattle.spec.specs.Rows.{Row, rowsIn, rowsFrom}
+use Rattle.spec.proofs.Rows.{rows-start}
+use Rattle.spec.specs.Share.{any}
+use Rattle.spec.specs.Trim.{later}
+use Rattle.trimming.specs.Inner.{Numbers}
 use Rattle.search.proofs.Folds.{any-step, any-end}
 use Rattle.trimming.proofs.any_later.Statement.{statement}
 use Rattle.trimming.proofs.any_later.Tie as tie

@@ -4,8 +4,8 @@ use mathlib.Core.Path.{_≡_, sym, ap, _∙_}
 use lib.ListN.{getD}
 use borrow.Author.Needs.{needs}
 use native.Mathlib.Omega.{arith}
-use Rattle.search.specs.declared.Number.the-variants.{Some}
-use Rattle.trimming.specs.Places.{place}
+use Rattle.spec.specs.declared.Number.the-variants.{Some}
+use Rattle.trimming.specs.Inner.{place}
 use Rattle.trimming.proofs.Places.{at-most, commit-nowhere, commit-found}
 use Rattle.trimming.proofs.commit_at.Statement.{statement}
 use Rattle.trimming.proofs.commit_at.Tie as tie

@@ -3,9 +3,9 @@ use borrow.Author.Needs.{needs}
 use mathlib.Core.Path.{sym, _∙_}
 use borrow.Author.Tests.{eq-eqb, ne-eqb, lt-ltb, le-ltb}
 use native.Mathlib.Omega.{arith}
-use Rattle.rows.specs.Rows.{rowAt, tagOf}
-use Rattle.search.specs.Look.{commitOf}
-use Rattle.trimming.specs.Trim.{later}
+use Rattle.spec.specs.Rows.{rowAt, tagOf}
+use Rattle.spec.specs.Look.{commitOf}
+use Rattle.spec.specs.Trim.{later}
 use Rattle.trimming.proofs.Newest.{between-number}
 use Rattle.trimming.proofs.is_later.Statement.{statement}
 use Rattle.trimming.proofs.is_later.Tie as tie

@@ -4,9 +4,9 @@ use mathlib.Core.Path.{_≡_, ap, _∙_}
 use lib.ListN.{length, getD, length-set, length-replicate}
 use borrow.Author.Needs.{needs}
 use native.Mathlib.Omega.{arith}
-use Rattle.rows.specs.Rows.{rowAt, rowsIn, tagOf}
-use Rattle.search.specs.Look.{commitOf}
-use Rattle.trimming.specs.Newest.{numberOr}
+use Rattle.spec.specs.Rows.{rowAt, rowsIn, tagOf}
+use Rattle.spec.specs.Look.{commitOf}
+use Rattle.trimming.specs.Inner.{numberOr}
 use Rattle.removal.proofs.Moving.{stored-more}
 use Rattle.trimming.proofs.Newest.{Wanted, newest-start, newest-more, newest-end}
 use Rattle.trimming.proofs.note_rows.Statement.{statement}

@@ -1,6 +1,6 @@
 -- By the variant.
 use borrow.Author.Needs.{needs}
-use Rattle.trimming.specs.Newest.{numberOr}
+use Rattle.trimming.specs.Inner.{numberOr}
 use Rattle.trimming.proofs.number_or.Statement.{statement}
 use Rattle.trimming.proofs.number_or.Tie as tie
 

@@ -2,7 +2,7 @@
 use mathlib.Core.Path.{refl}
 use borrow.Author.Needs.{needs}
 use native.Mathlib.Omega.{arith}
-use Rattle.trimming.specs.Places.{place}
+use Rattle.trimming.specs.Inner.{place}
 use Rattle.trimming.proofs.place_of.Statement.{statement}
 use Rattle.trimming.proofs.place_of.Tie as tie
 

@@ -4,7 +4,7 @@ use borrow.Author.Tests.{lt-ltb, le-ltb}
 use borrow.Author.Needs.{needs}
 use native.Mathlib.Omega.{arith}
 use lib.ListN.{getD}
-use Rattle.rows.specs.Rows.{rowAt, rowsIn}
+use Rattle.spec.specs.Rows.{rowAt, rowsIn}
 use Rattle.trimming.proofs.Newest.{stays-above, stays-up-to, stays-newest}
 use Rattle.trimming.proofs.stay_flag.Statement.{statement}
 use Rattle.trimming.proofs.stay_flag.Tie as tie

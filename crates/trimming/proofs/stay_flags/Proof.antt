@@ -4,9 +4,9 @@ use mathlib.Core.Path.{_≡_, refl}
 use lib.ListN.{length, getD, length-set}
 use borrow.Author.Needs.{needs}
 use native.Mathlib.Omega.{arith}
-use Rattle.sets.specs.Choice.{if_then_else_}
-use Rattle.rows.specs.Rows.{rowAt, rowsIn}
-use Rattle.trimming.specs.Trim.{stays}
+use Rattle.spec.specs.Choice.{if_then_else_}
+use Rattle.spec.specs.Rows.{rowAt, rowsIn}
+use Rattle.spec.specs.Trim.{stays}
 use Rattle.removal.proofs.Moving.{stored-more}
 use Rattle.trimming.proofs.stay_flags.Statement.{statement}
 use Rattle.trimming.proofs.stay_flags.Tie as tie

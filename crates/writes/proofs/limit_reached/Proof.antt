@@ -4,8 +4,8 @@ use mathlib.Core.Path.{sym}
 use native.Mathlib.Omega.{arith}
 use borrow.Author.Needs.{needs}
 use borrow.Author.Tests.{lt-leb}
-use Rattle.rows.specs.Rows.{rowsIn}
-use Rattle.search.specs.Share.{cellsOf}
+use Rattle.spec.specs.Rows.{rowsIn}
+use Rattle.spec.specs.Share.{cellsOf}
 use Rattle.search.proofs.Folds.{cells-fewer}
 use Rattle.writes.proofs.limit_reached.Statement.{statement}
 use Rattle.writes.proofs.limit_reached.Tie as tie

@@ -5,14 +5,14 @@ use native.Mathlib.Omega.{arith}
 use borrow.Author.Needs.{needs}
 use borrow.Author.Tests.{lt-leb, le-leb, eq-eqb, ne-eqb, not-true, not-false}
 use lib.ListN.{getD, length}
-use Rattle.sets.specs.Set.{clients}
-use Rattle.rows.specs.Rows.{rowsIn}
-use Rattle.search.specs.Look.{isOwn, find}
+use Rattle.spec.specs.Set.{clients}
+use Rattle.spec.specs.Rows.{rowsIn}
+use Rattle.spec.specs.Look.{isOwn, find}
 use Rattle.spec.specs.Calls.{write}
 use Rattle.spec.specs.Bytes.{seen, laidOut}
 use Rattle.spec.proofs.Ends.{fit-of, ends-unfit, goes, refuses}
 use Rattle.writes.proofs.Outcomes.{own-row, own-rows, write-stored, found-below}
-use Rattle.search.specs.declared.Found.{Found}
+use Rattle.spec.specs.declared.Found.{Found}
 use Rattle.writes.proofs.write.Statement.{statement}
 use Rattle.writes.proofs.write.Tie as tie
 

@@ -1,0 +1,280 @@
+-- From the plain table of the proofs to the plain table of the statement: the book turned about, so that the oldest commit stands first, and
+-- without the values; a client that is not live as none. The map commutes with what the tables are told (`feeds`), and what is right by the one
+-- is right by the other (`right`).
+-- Assumes nothing.
+use Prim.Native.Nat.{ℕ, zero, suc, _≤_}
+use mathlib.Core.Path.{_≡_, refl, sym, _∙_, ap, subst, fun-ext}
+use mathlib.Core.Logic.{inl, inr, ite, if-pos, if-neg, by-cases}
+use mathlib.Core.Bool.{Bool, true, false}
+use mathlib.Core.List.{List, [], _∷_, _++_, List·Memᴰ as In, List·Memᴰ·head as here, List·Memᴰ·tail as there}
+use mathlib.Core.Option.{Option, none, some}
+use native.Mathlib.Decide.{ℕ-discrete, decLe}
+use native.Mathlib.Numerals.{add-one}
+use native.Mathlib.Omega.{arith}
+use borrow.Author.Tests.{eq-eqb, ne-eqb}
+use lib.ListN.{length, take, drop, length-append}
+use lib.Seq.{take-all, take-append-le, drop-append-le}
+use lib.Dec.{eqb}
+use Rattle.spec.specs.Choice.{if_then_else_}
+use Rattle.spec.specs.declared.Progress.{Progress}
+use Rattle.spec.specs.declared.Progress.the-variants.{Stage, Waiting, Conflict, Done}
+use Rattle.spec.specs.Answers.{Answer, Answered, Refused}
+use Rattle.spec.specs.Run.{Call, Begin, Read, Write, Advance, Abandon, Trim, Free}
+use Rattle.spec.specs.Table.{has, Commit, Open, Table, blank, put, reaches, Told, tell}
+use Rattle.spec.specs.Right as r
+use Rattle.spec.specs.Right.{Bounds, lastNumber, Clash, RightRefusal, ReadRefusal, WriteRefusal}
+use Rattle.history.proofs.Lists.{in-nil, in-case, in-one, in-left, in-right, append-case, none-some, same-some}
+use Rattle.history.proofs.Counts.{has-some, some-has}
+use Rattle.history.proofs.Plain as own
+use Rattle.history.proofs.Plain.{Entry, PClient, Plain, none-yet, restaged, opening, rewritten, onBegin, onWrite, onAbandon, onAdvance, onProgress, onStage, plain, lastOf, newer, older}
+
+-- ---- the map
+
+unfoldable pub commitOf : Entry → Commit
+commitOf e = record { number = e .number; wrote = λ x. has (e .puts x) }
+
+-- the book with its oldest commit first
+unfoldable pub aged : List Entry → List Commit
+aged [] = []
+aged (e ∷ l) = aged l ++ (commitOf e ∷ [])
+
+abbrev pub openOf : PClient → Open
+openOf q = record { copy = q .copy; since = q .since; writes = q .writes; stage = q .stage; commit = q .commit }
+
+unfoldable pub clientOf : PClient → Option Open
+clientOf q = if q .live then some (openOf q) else none
+
+unfoldable pub erase : Plain → Table
+erase p = record { values = p .table; count = p .count; book = aged (p .book); clients = λ k. clientOf (p .cl k) }
+
+pub erase-empty : erase own.empty ≡ blank
+unfolding erase aged clientOf own.empty none-yet blank
+erase-empty = refl
+
+-- ---- clients
+
+pub live-some : (q : PClient) → q .live ≡ true → clientOf q ≡ some (openOf q)
+unfolding clientOf
+live-some q e = rw e
+
+dead-none : (q : PClient) → q .live ≡ false → clientOf q ≡ none
+unfolding clientOf
+dead-none q e = rw e
+
+pub some-live : (q : PClient) (o : Open) → clientOf q ≡ some o → (q .live ≡ true) × (openOf q ≡ o)
+unfolding clientOf
+some-live q o e = go (q .live) refl e
+  where
+    go : (b : Bool) → q .live ≡ b → (if b then some (openOf q) else none) ≡ some o → (q .live ≡ true) × (openOf q ≡ o)
+    go true l e = (l, same-some e)
+    go false l e = absurd (none-some refl e)
+
+none-dead : (q : PClient) → clientOf q ≡ none → q .live ≡ false
+unfolding clientOf
+none-dead q e = go (q .live) refl e
+  where
+    go : (b : Bool) → q .live ≡ b → (if b then some (openOf q) else none) ≡ none → q .live ≡ false
+    go true l e = absurd (none-some e refl)
+    go false l e = l
+
+-- one client replaced, in either table
+choice : (b : Bool) (x y : PClient) → (if b then clientOf x else clientOf y) ≡ clientOf (if b then x else y)
+choice true x y = refl
+choice false x y = refl
+
+put-client : (k : ℕ) (c : PClient) (o : Option Open) (cl : ℕ → PClient) → o ≡ clientOf c → put k o (λ j. clientOf (cl j)) ≡ (λ j. clientOf (put k c cl j))
+unfolding put
+put-client k c o cl e = fun-ext (λ j. rw e (choice (eqb j k) c (cl j)))
+
+-- ---- the book
+
+length-aged : (l : List Entry) → length (aged l) ≡ length l
+unfolding aged
+length-aged [] = refl
+length-aged (e ∷ l) = length-append (aged l) (commitOf e ∷ []) ∙ rw (length-aged l) (omega arith)
+
+last-append : (l : List Commit) (e : Commit) → lastNumber (l ++ (e ∷ [])) ≡ e .number
+unfolding lastNumber
+last-append [] e = refl
+last-append (d ∷ []) e = refl
+last-append (d ∷ f ∷ l) e = last-append (f ∷ l) e
+
+last-aged : (l : List Entry) → lastNumber (aged l) ≡ lastOf l
+unfolding aged lastOf commitOf lastNumber
+last-aged [] = refl
+last-aged (e ∷ l) = last-append (aged l) (commitOf e)
+
+drop-all : (n : ℕ) (l : List Commit) → length l ≤ n → drop n l ≡ []
+drop-all zero [] h = refl
+drop-all zero (e ∷ l) h = absurd (omega arith)
+drop-all (suc n) [] h = refl
+drop-all (suc n) (e ∷ l) h = drop-all n l (omega arith)
+
+drop-aged : (n : ℕ) (l : List Entry) → drop n (aged l) ≡ aged (newer n l)
+unfolding aged newer
+drop-aged n [] = drop-all n [] (omega arith)
+drop-aged n (e ∷ l) =
+    by-cases (decLe n (length l))
+    (λ h. drop-append-le n (aged l) (commitOf e ∷ []) (omega (arith, length-aged l)) ∙ rw (drop-aged n l) (ap aged (sym (if-pos (decLe n (length l)) h (e ∷ newer n l) []))))
+    (λ h. drop-all n (aged l ++ (commitOf e ∷ [])) (omega (arith, h, length-append (aged l) (commitOf e ∷ []), length-aged l))
+    ∙ ap aged (sym (if-neg (decLe n (length l)) h (e ∷ newer n l) [])))
+
+take-aged : (n : ℕ) (l : List Entry) → take n (aged l) ≡ aged (older n l)
+unfolding aged older
+take-aged n [] = take-all n [] (omega arith)
+take-aged n (e ∷ l) =
+    by-cases (decLe n (length l))
+    (λ h. take-append-le n (aged l) (commitOf e ∷ []) (omega (arith, length-aged l)) ∙ take-aged n l ∙ ap aged (sym (if-pos (decLe n (length l)) h (older n l) (e ∷ l))))
+    (λ h. take-all n (aged l ++ (commitOf e ∷ [])) (omega (arith, h, length-append (aged l) (commitOf e ∷ []), length-aged l))
+    ∙ ap aged (sym (if-neg (decLe n (length l)) h (older n l) (e ∷ l))))
+
+aged-in : (e : Entry) (l : List Entry) → In e l → In (commitOf e) (aged l)
+unfolding aged
+aged-in e [] i = absurd (in-nil i)
+aged-in e (d ∷ l) i = in-case i (λ q. in-right (aged l) (here (ap commitOf q))) (λ j. in-left (commitOf d ∷ []) (aged-in e l j))
+
+in-aged : (e : Commit) (l : List Entry) → In e (aged l) → (d : Entry) × In d l × (e ≡ commitOf d)
+unfolding aged
+in-aged e [] i = absurd (in-nil i)
+in-aged e (d ∷ l) i = append-case (aged l) i (λ j. let x = in-aged e l j in (x .0, there (x .1), x .2)) (λ j. (d, here refl, in-one j))
+
+-- ---- the tables are told alike
+
+yet : none-yet .live ≡ false
+unfolding none-yet
+yet = refl
+
+module _ (p : Plain) (k : ℕ) where
+  stage-feeds : (g : ℕ) → p .cl k .live ≡ true → reaches k g (erase p) (some (openOf (p .cl k))) ≡ erase (onStage p k g)
+  unfolding reaches onStage erase aged commitOf
+  stage-feeds g l =
+      by-cases (ℕ-discrete g 8)
+      (λ e. rw (eq-eqb g 8 e, if-pos (ℕ-discrete g 8) e (own.took p k) (ite (ℕ-discrete g 12) (own.made p k) (own.moved p k g)), add-one (p .count))
+      (λ i. record {
+        values = p .table;
+        count = suc (p .count);
+        book = aged (p .book);
+        clients = put-client k (restaged (p .cl k) 8 (suc (p .count))) _ (p .cl) (sym (live-some (restaged (p .cl k) 8 (suc (p .count))) l)) i;
+      }))
+      (λ n. rw (ne-eqb g 8 n, if-neg (ℕ-discrete g 8) n (own.took p k) (ite (ℕ-discrete g 12) (own.made p k) (own.moved p k g)))
+      (by-cases (ℕ-discrete g 12)
+      (λ e. rw (eq-eqb g 12 e, if-pos (ℕ-discrete g 12) e (own.made p k) (own.moved p k g))
+      (λ i. record {
+        values = own.made p k .table;
+        count = p .count;
+        book = aged (own.made p k .book);
+        clients = put-client k (restaged (p .cl k) 12 (p .cl k .commit)) _ (p .cl) (sym (live-some (restaged (p .cl k) 12 (p .cl k .commit)) l)) i;
+      }))
+      (λ m. rw (ne-eqb g 12 m, if-neg (ℕ-discrete g 12) m (own.made p k) (own.moved p k g))
+      (λ i. record {
+        values = p .table;
+        count = p .count;
+        book = aged (p .book);
+        clients = put-client k (restaged (p .cl k) g (p .cl k .commit)) _ (p .cl) (sym (live-some (restaged (p .cl k) g (p .cl k .commit)) l)) i;
+      }))))
+
+  ends-feed : erase (own.ended p k) ≡ record { values = p .table; count = p .count; book = aged (p .book); clients = put k none (λ j. clientOf (p .cl j)) }
+  unfolding erase
+  ends-feed = λ i. record {
+    values = p .table;
+    count = p .count;
+    book = aged (p .book);
+    clients = sym (put-client k none-yet none (p .cl) (sym (dead-none none-yet yet))) i;
+  }
+
+module _ (bounds : Bounds) (w : ℕ) (p : Plain) where
+  pub feeds : (q : Call) (a : Answer (Told q)) (free : ℕ) → own.Right bounds w p q a free → tell q a (erase p) ≡ erase (plain p q a)
+  unfolding tell plain onBegin onWrite onAdvance onProgress onAbandon erase
+  feeds (Begin k) (Answered b) free h = λ i. record {
+    values = p .table;
+    count = p .count;
+    book = aged (p .book);
+    clients = (ap (λ (n : ℕ). put k (some (record { copy = p .table; since = n; writes = λ x. none; stage = 0; commit = 0 })) (λ j. clientOf (p .cl j))) (length-aged (p .book))
+        ∙ put-client k (opening p) _ (p .cl) (sym (live-some (opening p) refl))) i;
+  }
+  feeds (Begin k) (Refused n) free h = refl
+  feeds (Read k x) (Answered v) free h = refl
+  feeds (Read k x) (Refused n) free h = refl
+  feeds (Write k x v) (Answered n) free h = rw (live-some (p .cl k) (h .0)) (λ i. record {
+    values = p .table;
+    count = p .count;
+    book = aged (p .book);
+    clients = put-client k (rewritten (p .cl k) x v) _ (p .cl) (sym (live-some (rewritten (p .cl k) x v) (h .0))) i;
+  })
+  feeds (Write k x v) (Refused n) free h = refl
+  feeds (Advance k) (Answered (Stage g)) free h = rw (live-some (p .cl k) (h .0)) (stage-feeds p k g (h .0))
+  feeds (Advance k) (Answered (Waiting n)) free h = refl
+  feeds (Advance k) (Answered (Conflict n)) free h = sym (ends-feed p k)
+  feeds (Advance k) (Answered (Done n)) free h = sym (ends-feed p k)
+  feeds (Advance k) (Refused n) free h = refl
+  feeds (Abandon k) (Answered n) free h = sym (ends-feed p k)
+  feeds (Abandon k) (Refused n) free h = refl
+  feeds Trim (Answered n) free h = refl
+  feeds Trim (Refused n) free h = refl
+  feeds Free (Answered n) free h = refl
+  feeds Free (Refused n) free h = refl
+
+-- ---- what is right by the one is right by the other
+
+module _ (p : Plain) (k : ℕ) where
+  clash : (e : Commit) → Clash (erase p) (openOf (p .cl k)) e → (d : Entry) × (e ≡ commitOf d) × own.Clash p k d
+  unfolding erase commitOf
+  clash e h =
+      let x = in-aged e (newer (p .cl k .since) (p .book)) (rw (drop-aged (p .cl k .since) (p .book)) at (h .since)) in
+      (x .0, x .2, (x .1, (h .shares .0, has-some (x .0 .puts (h .shares .0)) (ap (λ (z : Commit). z .wrote (h .shares .0)) (sym (x .2)) ∙ h .shares .1), has-some (p .cl k .writes (h .shares .0)) (h .shares .2))))
+
+  clash-back : (d : Entry) → own.Clash p k d → Clash (erase p) (openOf (p .cl k)) (commitOf d)
+  unfolding erase commitOf
+  clash-back d h = record {
+    since = rw (drop-aged (p .cl k .since) (p .book)) (aged-in d _ (h .0));
+    shares = (h .1 .0, some-has (d .puts (h .1 .0)) (h .1 .1), some-has (p .cl k .writes (h .1 .0)) (h .1 .2));
+  }
+
+  no-clash : own.NoClash p k → r.NoClash (erase p) (openOf (p .cl k))
+  no-clash n e c = let x = clash e c in n (x .0) (x .2 .0) (x .2 .1)
+
+  six : (n : ℕ) → own.Six p k n → RightRefusal (clientOf (p .cl k)) n
+  unfolding clientOf
+  six n h = go (p .cl k .live) refl
+    where
+      go : (b : Bool) → p .cl k .live ≡ b → RightRefusal (if b then some (openOf (p .cl k)) else none) n
+      go true l = λ e g. h e l g
+      go false l = tt
+
+  progress : (a : Progress) → own.RightProgress p k a → r.RightProgress (erase p) (openOf (p .cl k)) a
+  unfolding erase commitOf
+  progress (Stage g) h = (
+    omega (arith, h .0),
+    (λ e. let w = h .1 e in (w .0, some-has (p .cl k .writes (w .0)) (w .1)), (λ e. no-clash (h .2 e), λ e. (no-clash (h .3 e .0), rw (last-aged (p .book)) (h .3 e .1)))),
+  )
+  progress (Waiting n) h = h
+  progress (Conflict n) h = (
+    h .0,
+    ((commitOf (h .1 .0), h .1 .1, clash-back (h .1 .0) (h .1 .2)), λ e c. let x = clash e c in rw (x .1) (h .2 (x .0) (x .2))),
+  )
+  progress (Done n) (inl h) = inl record { from = h .0; number = h .1; booked = (commitOf (h .2 .0), h .2 .2, aged-in (h .2 .0) (p .book) (h .2 .1)) }
+  progress (Done n) (inr h) = inr record {
+    from = h .0;
+    nothing = λ w. h .1 (w .0, has-some (p .cl k .writes (w .0)) (w .1));
+    number = h .2 ∙ sym (ap lastNumber (take-aged (p .cl k .since) (p .book)) ∙ last-aged (older (p .cl k .since) (p .book)));
+  }
+
+module _ (bounds : Bounds) (w W : ℕ) (rises : w ≤ W) (p : Plain) where
+  pub right : (q : Call) (a : Answer (Told q)) (free : ℕ) → own.Right bounds W p q a free → r.Right bounds w (erase p) q a (Answered free)
+  unfolding erase
+  right (Begin k) (Answered b) free h = (dead-none (p .cl k) (h .0), (h .1 ∙ sym (last-aged (p .book)), omega (arith, h .2)))
+  right (Begin k) (Refused n) free h = six p k n h
+  right (Read k x) (Answered v) free h = (openOf (p .cl k), live-some (p .cl k) (h .0), h .1, h .2, h .3)
+  right (Read k x) (Refused n) free h =
+      λ o e. let y = some-live (p .cl k) o e in subst (λ (z : Open). ReadRefusal x (z .stage) n) (y .1) (h (y .0))
+  right (Write k x v) (Answered n) free h = (openOf (p .cl k), live-some (p .cl k) (h .0), h .1)
+  right (Write k x v) (Refused n) free h =
+      λ o e. let y = some-live (p .cl k) o e in subst (λ (z : Open). WriteRefusal (bounds .limit) (z .stage) (z .writes) x v (Answered free) n) (y .1) (h (y .0))
+  right (Advance k) (Answered a) free h = (openOf (p .cl k), live-some (p .cl k) (h .0), progress p k a (h .1))
+  right (Advance k) (Refused n) free h = dead-none (p .cl k) h
+  right (Abandon k) (Answered n) free h = (openOf (p .cl k), live-some (p .cl k) (h .0), h .1)
+  right (Abandon k) (Refused n) free h = six p k n h
+  right Trim (Answered n) free h =
+      λ e. ap (λ (z : ℕ). Answered z) (h (λ k. none-dead (p .cl k) (e k)))
+  right Trim (Refused n) free h = tt
+  right Free a free h = tt

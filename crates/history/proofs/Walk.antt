@@ -1,0 +1,34 @@
+-- Every call on an image does, by the view, one of the things of Took.antt; and the image after set-up, by the view.
+-- Assumes nothing.
+use Prim.Native.Nat.{ℕ, _≤_}
+use mathlib.Core.Path.{_≡_, fun-ext}
+use Rattle.spec.specs.Set.{clients}
+use Rattle.spec.specs.Image.{Image, clientsOf, zeros, empty}
+use Rattle.spec.specs.Calls.{top}
+use Rattle.spec.specs.Run.{Call, Begin, Read, Write, Advance, Abandon, Trim, Free, perform}
+use Rattle.history.proofs.Wellformed.{zero-at}
+use Rattle.history.proofs.Model as m
+use Rattle.history.proofs.View.{clientOf, clientsAs, view, none-listed}
+use Rattle.history.proofs.Does.{Does}
+use Rattle.history.proofs.Simple.{begin-does, read-does, abandon-does, free-does}
+use Rattle.history.proofs.Storing.{write-does}
+use Rattle.history.proofs.Trimming.{trim-does}
+use Rattle.history.proofs.Advancing.{Ready, advance-does}
+
+pub perform-does : (q : Call) (i : Image) → Ready i → i .counters .issued ≤ top → Does i q (perform q i)
+unfolding perform
+perform-does (Begin k) i h w = begin-does i k (h .fine) w
+perform-does (Read k x) i h w = read-does i k x (h .fine)
+perform-does (Write k x v) i h w = write-does i k x v (h .fine) (h .numbers k) (h .inside)
+perform-does (Advance k) i h w = advance-does i k h
+perform-does (Abandon k) i h w = abandon-does i k (h .fine)
+perform-does Trim i h w = trim-does i
+perform-does Free i h w = free-does i
+
+none-open : clientsAs (clientsOf zeros zeros zeros zeros zeros zeros zeros) ≡ (λ _. m.closed)
+unfolding clientsAs clientOf m.closed
+none-open = fun-ext (λ j. rw (zero-at clients j, none-listed))
+
+pub empty-view : (n l w : ℕ) → view (empty n l w) ≡ m.fresh (record { rows = n; limit = l }) w
+unfolding view empty m.fresh
+empty-view n l w = rw none-open

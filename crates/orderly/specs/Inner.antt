@@ -1,0 +1,92 @@
+-- What the contracts of inner functions need beyond the words of the papers: nobody has to believe it.
+-- Assumes nothing.
+use Prim.Native.Nat.{ℕ, suc, _+_, _*_, _%_, _≤_, _<_}
+use mathlib.Core.Path.{_≡_}
+use mathlib.Core.List.{List, [], _∷_}
+use lib.ListN.{length, getD}
+use lib.Dec.{eqb}
+use Rattle.spec.specs.Choice.{if_then_else_}
+use Rattle.spec.specs.Rows.{Row, rowAt, rowsIn, tagOf, cellOf, commitTag, rowsFrom}
+use Rattle.search.specs.Inner.{Next}
+use Rattle.trimming.specs.Inner.{place}
+use mathlib.Core.Bool.{Bool, true, false}
+use Rattle.spec.specs.Share.{wrote}
+use Rattle.spec.specs.Orderly.{orderlyRows}
+
+-- ---- Chains of rows by their places, for the inner functions' promises.
+
+-- Of n rows those from i on are linked: heads has the first one of each place, and nexts, of each row that has a place, the next one of its place;
+-- n stands for none. `key k` is the place of row k, among 4,096; a row with a larger key has no place.
+pub record Linked (key : ℕ → ℕ) (n i : ℕ) (heads nexts : List ℕ) : Type 0 where
+  pub size : length heads ≡ 4096
+  pub room : length nexts ≡ 1024
+  pub head : (x : ℕ) → x < 4096 → Next (λ k. key k ≡ x) i n (getD heads x 0)
+  pub next : (k : ℕ) → i ≤ k → k < n → key k < 4096 → Next (λ j. key j ≡ key k) (k + 1) n (getD nexts k 0)
+
+-- Row k, whose place is x, is put in front of the rows behind it, whatever the places of the others are.
+pub record Links (x k : ℕ) (heads nexts heads′ nexts′ : List ℕ) : Type 0 where
+  pub one : (key : ℕ → ℕ) (n : ℕ) → k < n → key k ≡ x → Linked key n (k + 1) heads nexts → Linked key n k heads′ nexts′
+
+-- A walk over the rows whose place is x has come to row i: the row itself is one, where there is one, and from each row on nexts leads to the next.
+pub record Chain (key : ℕ → ℕ) (n : ℕ) (nexts : List ℕ) (x i : ℕ) : Type 0 where
+  pub small : x < 4096
+  pub end : i ≤ n
+  pub here : i < n → key i ≡ x
+  pub next : (k : ℕ) → i ≤ k → k < n → key k < 4096 → Next (λ j. key j ≡ key k) (k + 1) n (getD nexts k 0)
+
+-- ---- the places that rows are linked by
+
+-- committed row k of c by its tag
+abbrev pub tagPlace : List ℕ → ℕ → ℕ
+tagPlace c k = place (commitTag (rowAt 8 k c))
+
+-- the first committed row with that tag, as many as there are where no one has it
+unfoldable pub entryOf : ℕ → List Row → ℕ
+entryOf tag [] = 0
+entryOf tag (c ∷ cs) = if eqb (commitTag c) tag then 0 else suc (entryOf tag cs)
+
+-- data row k of s by the committed row of its tag, of m in c; m where its transaction is not committed
+abbrev pub rowEntry : ℕ → List ℕ → List ℕ → ℕ → ℕ
+rowEntry m c s k = entryOf (tagOf (rowAt 24 k s)) (rowsIn 8 m c)
+
+-- the data rows, all linked by their committed rows
+abbrev pub RowsLinked : ℕ → ℕ → List ℕ → List ℕ → List ℕ → List ℕ → Type 0
+RowsLinked n m s c firsts follows = Linked (rowEntry m c s) n 0 firsts follows
+
+-- the place of a tag and a cell together, by the tag's place
+unfoldable pub pairPlace : ℕ → ℕ → ℕ
+pairPlace x cell = (x + cell * 611) % 4096
+
+-- data row k of s by its tag and cell where its transaction is not committed; the others have no place
+abbrev pub openPlace : ℕ → List ℕ → List ℕ → ℕ → ℕ
+openPlace m entry s k = if eqb (getD entry k 0) m then pairPlace (place (tagOf (rowAt 24 k s))) (cellOf (rowAt 24 k s)) else 4096
+
+-- the committed row of each of n data rows
+pub record RowEntries (n m : ℕ) (s c entry : List ℕ) : Type 0 where
+  pub size : length entry ≡ 1024
+  pub each : (k : ℕ) → k < n → getD entry k 0 ≡ rowEntry m c s k
+
+-- data rows of one tag have the same committed row, by its number, which takes 16 bits
+pub record Alike (n : ℕ) (s entry : List ℕ) : Type 0 where
+  pub size : length entry ≡ 1024
+  pub below : (k : ℕ) → k < n → getD entry k 0 < 65536
+  pub each : (i k : ℕ) → i < n → k < n → tagOf (rowAt 24 i s) ≡ tagOf (rowAt 24 k s) → getD entry i 0 ≡ getD entry k 0
+
+-- A walk over a chain that meets every row of that tag and cell from row i on.
+pub record PairWalk (n : ℕ) (s nexts : List ℕ) (tag cell i : ℕ) : Type 0 where
+  pub key : ℕ → ℕ
+  pub at : ℕ
+  pub chain : Chain key n nexts at i
+  pub meets : (k : ℕ) → k < n → (key k ≡ at → ⊥) → tagOf (rowAt 24 k s) ≡ tag → cellOf (rowAt 24 k s) ≡ cell → ⊥
+
+-- ---- Single data rows that are orderly, for the inner functions' promises.
+
+-- a data row of a cell below 1,024 that no later row of its tag has too
+pub record Plain (n : ℕ) (s : List ℕ) (k : ℕ) : Type 0 where
+  pub small : cellOf (rowAt 24 k s) < 1024
+  pub alone : wrote (rowsFrom 24 n (k + 1) s) (tagOf (rowAt 24 k s)) (cellOf (rowAt 24 k s)) ≡ false
+
+-- What the test of the rows that are not committed says; entry has m for them. They are plain, or not all rows of s are orderly.
+pub record OpenTest (n m : ℕ) (s entry : List ℕ) (r : Bool) : Type 0 where
+  pub plain : r ≡ true → (k : ℕ) → k < n → getD entry k 0 ≡ m → Plain n s k
+  pub not-plain : r ≡ false → orderlyRows (rowsIn 24 n s) ≡ false

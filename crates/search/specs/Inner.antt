@@ -1,0 +1,32 @@
+-- What the contracts of inner functions need beyond the words of the papers: nobody has to believe it.
+-- Assumes nothing.
+use Prim.Native.Nat.{ℕ, _≤_, _<_}
+use mathlib.Core.Path.{_≡_}
+use mathlib.Core.List.{List}
+use lib.ListN.{length, getD}
+use Rattle.spec.specs.Choice.{if_then_else_}
+use Rattle.spec.specs.Rows.{Row}
+use Rattle.spec.specs.Share.{wrote}
+use Rattle.spec.specs.declared.Found.{Found}
+use Rattle.spec.specs.declared.Found.the-variants.{At, Missing}
+use Rattle.search.specs.declared.Own.{Own}
+use Rattle.search.specs.declared.Own.the-variants.{Row as OwnRow, Rows as OwnRows}
+
+-- ---- What a pass over rows finds, for the inner functions' promises.
+
+-- r is the first number from `from` on, and below n, that is a hit, or n where there is none
+pub record Next (Hit : ℕ → Type 0) (from n r : ℕ) : Type 0 where
+  pub start : from ≤ r
+  pub end : r ≤ n
+  pub misses : (k : ℕ) → from ≤ k → k < r → Hit k → ⊥
+  pub hit : r < n → Hit r
+
+-- marks say of each cell below 1,024 whether the transaction wrote it
+pub record Marked (marks : List ℕ) (ds : List Row) (tag : ℕ) : Type 0 where
+  pub size : length marks ≡ 1024
+  pub each : (x : ℕ) → x < 1024 → getD marks x 0 ≡ (if wrote ds tag x then 1 else 0)
+
+-- where the transaction's row for a cell is, or how many rows it has
+abbrev pub rowOrCount : Found → ℕ → Own
+rowOrCount (At i) n = OwnRow i
+rowOrCount Missing n = OwnRows n

@@ -1,0 +1,90 @@
+-- What the contracts of inner functions need beyond the words of the papers: nobody has to believe it.
+-- Assumes nothing.
+use Prim.Native.Nat.{ℕ, _+_, _≤_, _<_}
+use mathlib.Core.List.{List, [], _∷_, _++_}
+use lib.Dec.{eqb}
+use Rattle.spec.specs.Choice.{if_then_else_}
+use mathlib.Core.Path.{_≡_}
+use mathlib.Core.Logic.{_⊎_}
+use lib.ListN.{length, take, drop}
+use Rattle.spec.specs.declared.Store.{Store}
+use Rattle.spec.specs.declared.FigureAnswer.{FigureAnswer}
+use Rattle.spec.specs.declared.FigureAnswer.the-variants.{Answered, Refused}
+use Rattle.spec.specs.Session.{World, Response, answerTo, answers}
+use Rattle.text.specs.Inner.{Put}
+
+-- ---- The lines of an input that end in a newline, and what stands behind the last of them.
+
+-- the place of the first newline of s, whose first byte is at i, or the place behind s
+unfoldable pub newlineFrom : ℕ → List ℕ → ℕ
+newlineFrom i [] = i
+newlineFrom i (b ∷ s) = if eqb b 10 then i else newlineFrom (i + 1) s
+
+-- a byte in front of the first line, if there is one
+abbrev pub push : ℕ → List (List ℕ) → List (List ℕ)
+push b [] = []
+push b (l ∷ ls) = (b ∷ l) ∷ ls
+
+-- the lines that end in a newline, without it
+unfoldable pub linesOf : List ℕ → List (List ℕ)
+linesOf [] = []
+linesOf (b ∷ s) = if eqb b 10 then ([] ∷ linesOf s) else push b (linesOf s)
+
+abbrev pub unlessLines : List (List ℕ) → ℕ → List ℕ → List ℕ
+unlessLines [] b r = b ∷ r
+unlessLines (l ∷ ls) b r = r
+
+-- what stands behind the last newline
+unfoldable pub restOf : List ℕ → List ℕ
+restOf [] = []
+restOf (b ∷ s) = if eqb b 10 then restOf s else unlessLines (linesOf s) b (restOf s)
+
+-- ---- What the answer to one line, and to the whole lines of a chunk of input, leaves and prints.
+
+-- r is n, or the length of a buffer that has fewer than n bytes
+abbrev pub Front : ℕ → ℕ → ℕ → Type 0
+Front n len r = (r ≡ n) ⊎ ((r ≡ len) × (len ≤ n))
+
+-- w is what the response leaves, and out, whose text ended at a place, has become out′, whose text ends at used, with the response's text appended
+pub record Spoken (p : Response) (w : World) (out : List ℕ) (at : ℕ) (out′ : List ℕ) (used : ℕ) : Type 0 where
+  pub world : w ≡ p .world
+  pub text : Put out at (p .text) out′ used
+  pub room : used ≤ at + 90
+
+-- "a refused set-up keeps the old one"
+abbrev pub keptOf : Store → Store → FigureAnswer → Store
+keptOf old new (Answered n) = new
+keptOf old new (Refused r) = old
+
+-- what lines leave, one after the other
+unfoldable pub worldAfter : World → List (List ℕ) → World
+worldAfter w [] = w
+worldAfter w (l ∷ ls) = worldAfter (answerTo l w .world) ls
+
+-- the text in out has grown by the answers to the lines of s between two places, and the state has gone along; what is left has no whole
+-- line, or out has no room for an answer
+pub record Fed (s : List ℕ) (start : ℕ) (w : World) (out : List ℕ) (at : ℕ) (from : ℕ) (w′ : World) (out′ : List ℕ) (used : ℕ) : Type 0 where
+  pub text : take used out′ ++ answers w′ (linesOf (drop from s)) ≡ take at out ++ answers w (linesOf (drop start s))
+  pub state : worldAfter w′ (linesOf (drop from s)) ≡ worldAfter w (linesOf (drop start s))
+  pub within : from ≤ length s
+  pub room : used ≤ length out′
+  pub stopped : (length out′ < used + 90) ⊎ (newlineFrom from (drop from s) ≡ length s)
+
+-- ---- An input that is read in chunks: what is printed for it, chunk by chunk, with a begun line kept from one chunk to the next. The program reads,
+-- answers and keeps in this way (`chunk` and `keep`); proofs/Input.antt shows that it prints what the whole input asks for, however it is cut.
+
+-- all chunks in a row
+unfoldable pub joined : List (List ℕ) → List ℕ
+joined [] = []
+joined (c ∷ cs) = c ++ joined cs
+
+-- "the last needs no newline": a begun line at the end is a line
+abbrev pub lastOf : List ℕ → List (List ℕ)
+lastOf [] = []
+lastOf (b ∷ l) = (b ∷ l) ∷ []
+
+-- the answers to the whole lines of a chunk behind what was kept; of the line that it leaves begun, 81 bytes at most are kept
+unfoldable pub inChunks : World → List ℕ → List (List ℕ) → List ℕ
+inChunks w kept [] = answers w (lastOf kept)
+inChunks w kept (c ∷ cs) =
+    answers w (linesOf (kept ++ c)) ++ inChunks (worldAfter w (linesOf (kept ++ c))) (take 81 (restOf (kept ++ c))) cs

@@ -1,0 +1,21 @@
+-- The sixteen bytes of a read's value in the caller's data buffer.
+-- Assumes nothing.
+use Prim.Native.Nat.{ℕ, _/_}
+use mathlib.Core.List.{List, []}
+use lib.ListN.{length}
+use lib.Dec.{leb}
+use Rattle.spec.specs.Choice.{if_then_else_}
+use Rattle.spec.specs.Rows.{rowAt, valueOf}
+use Rattle.spec.specs.declared.Reading.{Reading}
+use Rattle.spec.specs.declared.Reading.the-variants.{Value, Unwritten}
+use Rattle.spec.specs.Answers.{Answer, Answered, Refused}
+
+-- of data row `at`, none where the buffer has no such row
+unfoldable pub valueRead : ℕ → List ℕ → List ℕ
+valueRead at d = if leb (length d / 24) at then [] else valueOf (rowAt 24 at d)
+
+-- of the row that an answer names, none for any other answer
+unfoldable pub valueFrom : List ℕ → Answer Reading → List ℕ
+valueFrom d (Answered (Value at)) = valueRead at d
+valueFrom d (Answered Unwritten) = []
+valueFrom d (Refused n) = []
