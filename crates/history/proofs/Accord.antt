@@ -13,49 +13,49 @@ use native.Mathlib.Omega.{arith}
 use borrow.Author.Tests.{ne-eqb}
 use lib.ListN.{replicate}
 use Rattle.spec.specs.Set.{clients, bit, member, insert, remove, size, collect, strike}
-use Rattle.spec.specs.Rows.{valueOf, spliced, number, bytesOf, dataRow, tagOf, cellOf, commitRow, commitNumber, commitTag, rowAt, rowsIn, rowsFrom, laid, filter, hasTag}
+use Rattle.spec.specs.Rows.{valueOf, spliced, number, bytesOf, dataRow, tagOf, cellOf, commitRow, commitNumber, commitTag, rowAt, rowsIn, rowsFrom, layout, filter, hasTag}
 use Rattle.spec.specs.Numbers.{lesser, smallest, above, upTo}
-use Rattle.spec.specs.Look.{commitOf, isOwn, find, versionOf, newer, seenAt, newest, ownOr, lookFor}
+use Rattle.spec.specs.Look.{commitOf, isOwn, find, versionOf, newer, versionAt, newest, ownOr, lookFor}
 use Rattle.spec.specs.Share.{any, count, wrote, cellsOf, shares, clash, conflict}
 use Rattle.spec.specs.Image.{cleared, closed, empty}
 use Rattle.spec.specs.Calls.{begun, begin, read, replaced, added, write, removed, abandon}
 use Rattle.spec.specs.Steps.{queued, struck, others, goOn, enter, takeRequest, listRequests, looked, lookRequests, check, takeCommit, listCommits, lookCommits, addCommit, leaveCommits, leaveRequests, finished, advance}
 use Rattle.spec.specs.declared.Progress.the-variants.{Conflict}
 use Rattle.spec.specs.Answers.{Answered}
-use Rattle.spec.specs.Bytes.{seen, storeOf, laidOut, known, fits, after, accepts, setUp}
-use Rattle.spec.specs.Run.{Call, Begin, Read, Write, Advance, Abandon, perform, Memory, memoryOf, takes}
-use Rattle.spec.specs.Table.{Open, Table, blank, put, reaches, tell}
-use Rattle.spec.specs.Right.{tells}
+use Rattle.spec.specs.Bytes.{decode, storeOf, encode, known, fits, onBytes, accepts, setUp}
+use Rattle.spec.specs.Run.{Call, Begin, Read, Write, Advance, Abandon, perform, Memory, memoryOf, step}
+use Rattle.spec.specs.Table.{Open, Table, blank, override, onStage, update}
+use Rattle.spec.specs.Right.{observed}
 use Rattle.history.specs.Afterwards.{afterRun, tableAfter}
-use Rattle.history.specs.Rounds.{Fate, StillOpen, Closed, Abandoned, over, fateBy, first, fate, Queued, serves, served, Round, limit}
+use Rattle.history.specs.Rounds.{Fate, StillOpen, Closed, Abandoned, isOver, fateBy, earlier, fate, Queued, serves, served, Round, roundLimit}
 
 -- ---- laws
 
 -- "4 × n × n + 32 rounds, 4,128 for 32"; document 02, 12: "16,416 by the same formula"
-pub for-32 : limit 32 ≡ 4128
+pub for-32 : roundLimit 32 ≡ 4128
 for-32 = refl
 
-pub for-64 : limit clients ≡ 16416
+pub for-64 : roundLimit clients ≡ 16416
 for-64 = refl
 
 -- the fate of a transaction that is over is decided by one call, before which it was open
 abbrev pub Decided : ℕ → Memory → List Call → Type 0
 Decided k m qs =
     (before : List Call) × (q : Call) × (rest : List Call)
-    × (qs ≡ before ++ (q ∷ rest)) × (fate k m before ≡ StillOpen) × (fate k m qs ≡ fateBy k q (tells q (afterRun before m)))
+    × (qs ≡ before ++ (q ∷ rest)) × (fate k m before ≡ StillOpen) × (fate k m qs ≡ fateBy k q (observed q (afterRun before m)))
 
-pub decided : (k : ℕ) (m : Memory) (qs : List Call) → over (fate k m qs) ≡ true → Decided k m qs
+pub decided : (k : ℕ) (m : Memory) (qs : List Call) → isOver (fate k m qs) ≡ true → Decided k m qs
 decided k m [] h = absurd (false≢true h)
-decided k m (q ∷ qs) h = go (fateBy k q (tells q m)) refl h (decided k (memoryOf (takes q m)) qs)
+decided k m (q ∷ qs) h = go (fateBy k q (observed q m)) refl h (decided k (memoryOf (step q m)) qs)
   where
     next : Memory
-    next = memoryOf (takes q m)
+    next = memoryOf (step q m)
 
-    by : {f : Fate} → fateBy k q (tells q m) ≡ f → (l : List Call) → fate k m (q ∷ l) ≡ first f (fate k next l)
-    by e l = ap (λ (f : Fate). first f (fate k next l)) e
+    by : {f : Fate} → fateBy k q (observed q m) ≡ f → (l : List Call) → fate k m (q ∷ l) ≡ earlier f (fate k next l)
+    by e l = ap (λ (f : Fate). earlier f (fate k next l)) e
 
-    go : (f : Fate) → fateBy k q (tells q m) ≡ f → over (first f (fate k next qs)) ≡ true
-        → (over (fate k next qs) ≡ true → Decided k next qs) → Decided k m (q ∷ qs)
+    go : (f : Fate) → fateBy k q (observed q m) ≡ f → isOver (earlier f (fate k next qs)) ≡ true
+        → (isOver (fate k next qs) ≡ true → Decided k next qs) → Decided k m (q ∷ qs)
     go StillOpen e h rec =
         let r = rec h in (q ∷ r .0, r .1, r .2, ap (λ (l : List Call). q ∷ l) (r .3), by e (r .0) ∙ r .4, by e qs ∙ r .5)
     go Closed e h rec = ([], q, qs, refl, refl, by e qs ∙ sym e)
@@ -72,8 +72,8 @@ longer m t qs more r k q = go qs m (r k q)
     go : (l : List Call) (m : Memory) → served k m l ≡ true → served k m (l ++ more) ≡ true
     go [] m e = absurd (false≢true e)
     go (c ∷ l) m e =
-        let n : Memory = memoryOf (takes c m) in
-        one-or (serves k c (tells c m)) (served k n l) (served k n (l ++ more)) (go l n) e
+        let n : Memory = memoryOf (step c m) in
+        one-or (serves k c (observed c m)) (served k n l) (served k n (l ++ more)) (go l n) e
 
 -- ---- the run
 
@@ -113,14 +113,14 @@ computed : Computed
 unfolding
     flatten
     bit member insert remove size collect strike
-    spliced number bytesOf dataRow tagOf cellOf commitRow commitNumber commitTag rowAt rowsIn rowsFrom laid filter hasTag
-    lesser smallest above upTo commitOf isOwn find versionOf newer seenAt newest ownOr lookFor valueOf
+    spliced number bytesOf dataRow tagOf cellOf commitRow commitNumber commitTag rowAt rowsIn rowsFrom layout filter hasTag
+    lesser smallest above upTo commitOf isOwn find versionOf newer versionAt newest ownOr lookFor valueOf
     any count wrote cellsOf shares clash conflict
     cleared closed empty begun begin read replaced added write removed abandon
     queued struck others goOn enter takeRequest listRequests looked lookRequests check takeCommit listCommits lookCommits addCommit
     leaveCommits leaveRequests finished advance
-    seen storeOf laidOut known fits after accepts setUp perform
-    blank put reaches tell
+    decode storeOf encode known fits onBytes accepts setUp perform
+    blank override onStage update
 computed = record {
   twelve = refl;
   thirteen = refl;

@@ -36,7 +36,7 @@ AllNamed n [] = Unit {0}
 AllNamed n (r ∷ rs) = AllBelow n r × AllNamed n rs
 
 -- X holds after any k rounds in which only clients below n are named
-pub record After (n k : ℕ) (X : Image → Type 0) (s : Image) : Type 0 where
+pub record Following (n k : ℕ) (X : Image → Type 0) (s : Image) : Type 0 where
   pub at : (rs : List (List Call)) → length rs ≡ k → AllNamed n rs → AllRounds s rs → X (runs s rs)
 
 -- every call that names only clients below n keeps X
@@ -60,34 +60,34 @@ module _ {n : ℕ} where
   runs-keep st s [] g o x = x
   runs-keep st s (r ∷ rs) g o x = runs-keep st (run s r) rs (run-grown s r g (o .0)) (o .1) (run-keeps st s r g (o .0) x)
 
-  pub stays : {X : Image → Type 0} → Stable n X → (k : ℕ) (s : Image) → Grown n s → X s → After n k X s
+  pub stays : {X : Image → Type 0} → Stable n X → (k : ℕ) (s : Image) → Grown n s → X s → Following n k X s
   stays st k s g x = record { at = λ rs e o h. runs-keep st s rs g o x }
 
   -- ---- one after the other
 
   go : {X Y : Image → Type 0} (j k : ℕ) (s : Image) (rs : List (List Call)) → length rs ≡ j + k → Grown n s → AllNamed n rs → AllRounds s rs
       → ((qs : List (List Call)) → length qs ≡ j → AllNamed n qs → AllRounds s qs → X (runs s qs))
-      → ((t : Image) → Grown n t → X t → After n k Y t) → Y (runs s rs)
+      → ((t : Image) → Grown n t → X t → Following n k Y t) → Y (runs s rs)
   go zero k s rs e g o h a f = f s g (a [] refl tt tt) .at rs (omega arith) o h
   go (suc j) k s [] e g o h a f = absurd (omega arith)
   go (suc j) k s (r ∷ rs) e g o h a f =
       go j k (run s r) rs (omega arith) (run-grown s r g (o .0)) (o .1) (h .1) (λ qs e′ o′ h′. a (r ∷ qs) (omega arith) (o .0, o′) (h .0, h′)) f
 
-  pub andThen : {X Y : Image → Type 0} (j k m : ℕ) → m ≡ j + k → (s : Image) → Grown n s → After n j X s
-      → ((t : Image) → Grown n t → X t → After n k Y t) → After n m Y s
+  pub andThen : {X Y : Image → Type 0} (j k m : ℕ) → m ≡ j + k → (s : Image) → Grown n s → Following n j X s
+      → ((t : Image) → Grown n t → X t → Following n k Y t) → Following n m Y s
   andThen j k m e s g a f = record { at = λ rs l o h. go j k s rs (l ∙ e) g o h (a .at) f }
 
   -- what follows at once
-  pub so : {X Y : Image → Type 0} → Stable n Y → (k : ℕ) (s : Image) → Grown n s → After n k X s → ((t : Image) → Grown n t → X t → Y t) → After n k Y s
+  pub so : {X Y : Image → Type 0} → Stable n Y → (k : ℕ) (s : Image) → Grown n s → Following n k X s → ((t : Image) → Grown n t → X t → Y t) → Following n k Y s
   so st k s g a f = andThen k 0 k (omega arith) s g a (λ t i x. stays st 0 t i (f t i x))
 
-  pub later : {X : Image → Type 0} → Stable n X → (j m : ℕ) → j ≤ m → (s : Image) → Grown n s → After n j X s → After n m X s
+  pub later : {X : Image → Type 0} → Stable n X → (j m : ℕ) → j ≤ m → (s : Image) → Grown n s → Following n j X s → Following n m X s
   later st j m h s g a = andThen j (m - j) m (omega arith) s g a (λ t i x. stays st (m - j) t i x)
 
-  pub every : {I : Type 0} {X : I → Image → Type 0} (k : ℕ) (s : Image) → ((i : I) → After n k (X i) s) → After n k (λ t. (i : I) → X i t) s
+  pub every : {I : Type 0} {X : I → Image → Type 0} (k : ℕ) (s : Image) → ((i : I) → Following n k (X i) s) → Following n k (λ t. (i : I) → X i t) s
   every k s f = record { at = λ rs l o h i. f i .at rs l o h }
 
-  pub both : {X Y : Image → Type 0} (k : ℕ) (s : Image) → After n k X s → After n k Y s → After n k (λ t. X t × Y t) s
+  pub both : {X Y : Image → Type 0} (k : ℕ) (s : Image) → Following n k X s → Following n k Y s → Following n k (λ t. X t × Y t) s
   both k s x y = record { at = λ rs l o h. (x .at rs l o h, y .at rs l o h) }
 
   -- ---- one round: X holds until client b is served, and from then on Y
@@ -104,7 +104,7 @@ module _ {n : ℕ} where
       go false e d rest = rest d
 
   pub one-round : {X Y : Image → Type 0} (b : ℕ) → Stable n X → Stable n Y → Hit n b X Y
-      → (s : Image) → Grown n s → X s → 1 ≤ client s b .stage → After n 1 Y s
+      → (s : Image) → Grown n s → X s → 1 ≤ client s b .stage → Following n 1 Y s
   one-round {X} {Y} b kx ky hit s g x h = record { at = single }
     where
       single : (rs : List (List Call)) → length rs ≡ 1 → AllNamed n rs → AllRounds s rs → Y (runs s rs)

@@ -1,6 +1,6 @@
 -- Document 01's promises on every list of calls, for every set-up.
 -- Demand 3: between two calls the image is well-formed, its view and the plain table satisfy the invariant, and there is room for the numbers
--- and rows to come (`Good`). A call on such an image does one of the things of Took.antt, so its answer is right and what it leaves is such an
+-- and rows to come (`Reached`). A call on such an image does one of the things of Took.antt, so its answer is right and what it leaves is such an
 -- image again; on the record and the buffers the call does the same (`crossed`). After a refused set-up no client is open, and the refusal 2
 -- is right of a closed client.
 -- Assumes nothing.
@@ -17,39 +17,39 @@ use Rattle.spec.specs.Answers.{Answer, Answered, Refused, unfit}
 use Rattle.spec.specs.Image.{Image, empty, numberOf, stageOf, commitNumberOf}
 use Rattle.spec.specs.Calls.{top, free}
 use Rattle.spec.specs.Bytes.{After, fits, limitOf, accepts, setUp}
-use Rattle.spec.specs.Run.{Call, Begin, Read, Write, Advance, Abandon, Trim, Free, Gives, perform, Memory, memoryOf, takes}
-use Rattle.spec.specs.Table.{Table, blank, Told, told, tell}
-use Rattle.spec.specs.Right.{Bounds, boundsOf, Right, numberAfter, tells, RightRun, AllUnfit, AllFit}
+use Rattle.spec.specs.Run.{Call, Begin, Read, Write, Advance, Abandon, Trim, Free, Result, perform, Memory, memoryOf, step}
+use Rattle.spec.specs.Table.{Table, blank, Observed, observeAnswer, update}
+use Rattle.spec.specs.Right.{Bounds, boundsOf, Right, numberAfter, observed, RightRun, AllUnfit, AllFit}
 use Rattle.history.proofs.Wellformed.{Wellformed, perform-kept, empty-fine}
 use Rattle.spec.proofs.Ends.{accepted}
-use Rattle.history.proofs.Bridge.{whole, fits-whole, crossed, used-rows, first, set-up-whole, first-fine, unused, refused-memory, refused-call}
+use Rattle.history.proofs.Bridge.{encoded, fits-whole, crossed, used-rows, firstImage, set-up-whole, first-fine, unused, refused-memory, refused-call}
 use Rattle.history.proofs.Lists.{none-some}
 use Rattle.history.proofs.Model as m
 use Rattle.history.proofs.Model.{State}
 use Rattle.history.proofs.Plain as own
-use Rattle.history.proofs.Plain.{Plain, plain}
+use Rattle.history.proofs.Plain.{Plain, updateₚ}
 use Rattle.history.proofs.Invariant.{Inv}
 use Rattle.history.proofs.Arms.{cph-in}
-use Rattle.history.proofs.Took.{Took}
+use Rattle.history.proofs.Transition.{Transition}
 use Rattle.history.proofs.Preserved.{good, Numbered, numbered, starts}
 use Rattle.history.proofs.Meets.{Under-state, keeps, R-left, C-left, start-under}
 use Rattle.history.proofs.Room.{Room-state, stays, room-left, start-room}
 use Rattle.history.proofs.View.{view, number-at, stage-at, commit-at, W-at, R-at, C-at, used-at, entries-at, free-at}
-use Rattle.history.proofs.Does.{seenAs}
+use Rattle.history.proofs.Simulates.{observedOutcome}
 use Rattle.history.proofs.Advancing.{Ready}
 use Rattle.history.proofs.Walk.{perform-does, empty-view}
 use Rattle.history.proofs.Erase.{erase, erase-empty, feeds, right}
 
 -- ---- what holds between two calls; w is the last number that a Begin has answered
 
-pub record Good (bounds : Bounds) (w : ℕ) (i : Image) (p : Plain) : Type 0 where
+pub record Reached (bounds : Bounds) (w : ℕ) (i : Image) (p : Plain) : Type 0 where
   pub fine : Wellformed i
   pub inv : Inv bounds (view i) p
   pub under : Under-state (view i)
   pub room : Room-state (view i)
   pub numbers : Numbered w (view i .W)
 
-module _ {bounds : Bounds} {w : ℕ} {i : Image} {p : Plain} (g : Good bounds w i p) where
+module _ {bounds : Bounds} {w : ℕ} {i : Image} {p : Plain} (g : Reached bounds w i p) where
   within : view i .W ≤ top
   within = g .numbers .within
 
@@ -80,14 +80,14 @@ module _ {bounds : Bounds} {w : ℕ} {i : Image} {p : Plain} (g : Good bounds w 
 -- ---- one call
 
 -- what a call on the image tells
-abbrev pub told-by : (q : Call) → Image → Answer (Told q)
-told-by q i = told q (perform q i .image .dataRows) (perform q i .answer)
+abbrev pub told-by : (q : Call) → Image → Answer (Observed q)
+told-by q i = observeAnswer q (perform q i .image .dataRows) (perform q i .answer)
 
-module _ {bounds : Bounds} {w : ℕ} {i : Image} {p : Plain} (g : Good bounds w i p) (q : Call) where
-  pub took : Took (view i) q (seenAs q (perform q i))
+module _ {bounds : Bounds} {w : ℕ} {i : Image} {p : Plain} (g : Reached bounds w i p) (q : Call) where
+  pub took : Transition (view i) q (observedOutcome q (perform q i))
   took = perform-does q i (ready g) (omega (arith, within g, W-at i)) .did
 
-  pub good-next : Good bounds (numberAfter q (told-by q i) w) (perform q i .image) (plain p q (told-by q i))
+  pub good-next : Reached bounds (numberAfter q (told-by q i) w) (perform q i .image) (updateₚ p q (told-by q i))
   good-next = record {
     fine = perform-kept q i (g .fine) .fine;
     inv = good (g .inv) took .1;
@@ -96,16 +96,16 @@ module _ {bounds : Bounds} {w : ℕ} {i : Image} {p : Plain} (g : Good bounds w 
     numbers = numbered (g .numbers) took;
   }
 
-  right-own : own.Right bounds (view i .W) p q (told-by q i) (m.free (view (perform q i .image)))
+  right-own : own.Rightₚ bounds (view i .W) p q (told-by q i) (m.freeₛ (view (perform q i .image)))
   right-own = good (g .inv) took .0
 
-  right-now : Right bounds w (erase p) q (told-by q i) (Answered (m.free (view (perform q i .image))))
-  right-now = right bounds w (view i .W) (g .numbers .issued) p q (told-by q i) (m.free (view (perform q i .image))) right-own
+  right-now : Right bounds w (erase p) q (told-by q i) (Answered (m.freeₛ (view (perform q i .image))))
+  right-now = right bounds w (view i .W) (g .numbers .issued) p q (told-by q i) (m.freeₛ (view (perform q i .image))) right-own
 
-  pub fed : tell q (told-by q i) (erase p) ≡ erase (plain p q (told-by q i))
-  fed = feeds bounds (view i .W) p q (told-by q i) (m.free (view (perform q i .image))) right-own
+  pub fed : update q (told-by q i) (erase p) ≡ erase (updateₚ p q (told-by q i))
+  fed = feeds bounds (view i .W) p q (told-by q i) (m.freeₛ (view (perform q i .image))) right-own
 
-free-answer : (i : Image) → perform Free i .answer ≡ Answered (m.free (view i))
+free-answer : (i : Image) → perform Free i .answer ≡ Answered (m.freeₛ (view i))
 unfolding perform free
 free-answer i = ap (λ (n : ℕ). Answered n) (sym (free-at i))
 
@@ -118,44 +118,44 @@ module _ (i : Image) (h : Wellformed i) (q : Call) where
   next-fine : Wellformed next
   next-fine = perform-kept q i h .fine
 
-  pub same-told : tells q (whole i) ≡ told-by q i
+  pub same-told : observed q (encoded i) ≡ told-by q i
   same-told =
-      ap (λ (a : After (Gives q)). told q (rowsIn 24 (a .store .used) (a .dataBytes)) (a .answer)) (crossed i h q)
-      ∙ ap (λ (ds : List Row). told q ds (perform q i .answer)) (used-rows next next-fine)
+      ap (λ (a : After (Result q)). observeAnswer q (rowsIn 24 (a .store .used) (a .dataBytes)) (a .answer)) (crossed i h q)
+      ∙ ap (λ (ds : List Row). observeAnswer q ds (perform q i .answer)) (used-rows next next-fine)
 
-  pub same-memory : memoryOf (takes q (whole i)) ≡ whole next
+  pub same-memory : memoryOf (step q (encoded i)) ≡ encoded next
   same-memory = ap memoryOf (crossed i h q)
 
-  free-next : takes Free (memoryOf (takes q (whole i))) .answer ≡ Answered (m.free (view next))
+  free-next : step Free (memoryOf (step q (encoded i))) .answer ≡ Answered (m.freeₛ (view next))
   free-next =
-      ap (λ (x : Memory). takes Free x .answer) same-memory
+      ap (λ (x : Memory). step Free x .answer) same-memory
       ∙ ap (λ (a : After ℕ). a .answer) (crossed next next-fine Free)
       ∙ free-answer next
 
-all-right : {bounds : Bounds} (qs : List Call) (w : ℕ) (i : Image) (p : Plain) → Good bounds w i p → RightRun bounds w (erase p) (whole i) qs
+all-right : {bounds : Bounds} (qs : List Call) (w : ℕ) (i : Image) (p : Plain) → Reached bounds w i p → RightRun bounds w (erase p) (encoded i) qs
 all-right [] w i p g = tt
 all-right {bounds} (q ∷ qs) w i p g =
     let h = g .fine in
     let e = same-told i h q in
     let j : Image = perform q i .image in
-    let a : Answer (Told q) = told-by q i in (
-      subst (λ (x : Answer (Told q)). Right bounds w (erase p) q x (takes Free (memoryOf (takes q (whole i))) .answer)) (sym e)
+    let a : Answer (Observed q) = told-by q i in (
+      subst (λ (x : Answer (Observed q)). Right bounds w (erase p) q x (step Free (memoryOf (step q (encoded i))) .answer)) (sym e)
           (subst (λ (x : Answer ℕ). Right bounds w (erase p) q a x) (sym (free-next i h q)) (right-now g q)),
-      subst (λ (x : Answer (Told q)). RightRun bounds (numberAfter q x w) (tell q x (erase p)) (memoryOf (takes q (whole i))) qs) (sym e)
-          (subst (λ (x : Memory). RightRun bounds (numberAfter q a w) (tell q a (erase p)) x qs) (sym (same-memory i h q))
-          (subst (λ (x : Table). RightRun bounds (numberAfter q a w) x (whole j) qs) (sym (fed g q)) (all-right qs (numberAfter q a w) j (plain p q a) (good-next g q)))),
+      subst (λ (x : Answer (Observed q)). RightRun bounds (numberAfter q x w) (update q x (erase p)) (memoryOf (step q (encoded i))) qs) (sym e)
+          (subst (λ (x : Memory). RightRun bounds (numberAfter q a w) (update q a (erase p)) x qs) (sym (same-memory i h q))
+          (subst (λ (x : Table). RightRun bounds (numberAfter q a w) x (encoded j) qs) (sym (fed g q)) (all-right qs (numberAfter q a w) j (updateₚ p q a) (good-next g q)))),
     )
 
 start-numbers : (b : Bounds) (w : ℕ) → w ≤ top → Numbered 0 (m.fresh b w .W)
 unfolding m.fresh
 start-numbers b w k = record { issued = omega arith; within = k }
 
-pub start-good : (n l w : ℕ) → 1 ≤ n → n ≤ 1024 → w ≤ top → Good (record { rows = n; limit = l }) 0 (empty n l w) own.empty
+pub start-good : (n l w : ℕ) → 1 ≤ n → n ≤ 1024 → w ≤ top → Reached (record { rows = n; limit = l }) 0 (empty n l w) own.emptyₚ
 start-good n l w h g k =
     let b : Bounds = record { rows = n; limit = l } in
     record {
       fine = empty-fine n l w h g;
-      inv = subst (λ (s : State). Inv b s own.empty) (sym (empty-view n l w)) (starts b w);
+      inv = subst (λ (s : State). Inv b s own.emptyₚ) (sym (empty-view n l w)) (starts b w);
       under = subst Under-state (sym (empty-view n l w)) (start-under b w);
       room = subst Room-state (sym (empty-view n l w)) (start-room b w);
       numbers = subst (λ (s : State). Numbered 0 (s .W)) (sym (empty-view n l w)) (start-numbers b w k);
@@ -182,22 +182,22 @@ refused-number (Abandon k) w = refl
 refused-number Trim w = refl
 refused-number Free w = refl
 
-refused-told : (q : Call) → tell q (Refused unfit) blank ≡ blank
-unfolding tell
+refused-told : (q : Call) → update q (Refused unfit) blank ≡ blank
+unfolding update
 refused-told q = refl
 
-pub refused-tells : (d c : List ℕ) (q : Call) → tells q (unused d c) ≡ Refused unfit
-refused-tells d c q = ap (λ (a : After (Gives q)). told q (rowsIn 24 (a .store .used) (a .dataBytes)) (a .answer)) (refused-call d c q)
+pub refused-tells : (d c : List ℕ) (q : Call) → observed q (unused d c) ≡ Refused unfit
+refused-tells d c q = ap (λ (a : After (Result q)). observeAnswer q (rowsIn 24 (a .store .used) (a .dataBytes)) (a .answer)) (refused-call d c q)
 
 refused-all : (n : Bounds) (w : ℕ) (d c : List ℕ) (qs : List Call) → RightRun n w blank (unused d c) qs
 refused-all n w d c [] = tt
 refused-all n w d c (q ∷ qs) =
     let e = refused-call d c q in
     let f = refused-tells d c q in (
-      subst (λ (x : Answer (Told q)). Right n w blank q x (takes Free (memoryOf (takes q (unused d c))) .answer)) (sym f) (refused-right n w q _),
-      subst (λ (x : Answer (Told q)). RightRun n (numberAfter q x w) (tell q x blank) (memoryOf (takes q (unused d c))) qs) (sym f)
-          (subst (λ (x : Memory). RightRun n (numberAfter q (Refused unfit) w) (tell q (Refused unfit) blank) x qs) (sym (ap memoryOf e))
-          (subst (λ (x : ℕ). RightRun n x (tell q (Refused unfit) blank) (unused d c) qs) (sym (refused-number q w))
+      subst (λ (x : Answer (Observed q)). Right n w blank q x (step Free (memoryOf (step q (unused d c))) .answer)) (sym f) (refused-right n w q _),
+      subst (λ (x : Answer (Observed q)). RightRun n (numberAfter q x w) (update q x blank) (memoryOf (step q (unused d c))) qs) (sym f)
+          (subst (λ (x : Memory). RightRun n (numberAfter q (Refused unfit) w) (update q (Refused unfit) blank) x qs) (sym (ap memoryOf e))
+          (subst (λ (x : ℕ). RightRun n x (update q (Refused unfit) blank) (unused d c) qs) (sym (refused-number q w))
           (subst (λ (x : Table). RightRun n w x (unused d c) qs) (sym (refused-told q)) (refused-all n w d c qs)))),
     )
 
@@ -212,8 +212,8 @@ demand3 d c w l h qs = go (accepts (length d) (length c) w l) refl
     go true e =
         let a = accepted (length d) (length c) w l e in
         subst (λ (x : Memory). RightRun (boundsOf d l) 0 blank x qs) (sym (set-up-whole d c w l e))
-        (subst (λ (x : Table). RightRun (boundsOf d l) 0 x (whole (first d w l)) qs) erase-empty
-        (all-right qs 0 (first d w l) own.empty (start-good (length d / 24) (limitOf l) (w - 1) (a .some) (a .most) (omega arith))))
+        (subst (λ (x : Table). RightRun (boundsOf d l) 0 x (encoded (firstImage d w l)) qs) erase-empty
+        (all-right qs 0 (firstImage d w l) own.emptyₚ (start-good (length d / 24) (limitOf l) (w - 1) (a .some) (a .most) (omega arith))))
     go false e =
         subst (λ (x : Memory). RightRun (boundsOf d l) 0 blank x qs) (sym (refused-memory d c w l e)) (refused-all (boundsOf d l) 0 d c qs)
 
@@ -222,20 +222,20 @@ unfit-all : (d c : List ℕ) (qs : List Call) → AllUnfit (unused d c) qs
 unfit-all d c [] = tt
 unfit-all d c (q ∷ qs) =
     let e = refused-call d c q in
-    (ap (λ (x : After (Gives q)). x .answer) e, (ap memoryOf e, unfit-all d c qs))
+    (ap (λ (x : After (Result q)). x .answer) e, (ap memoryOf e, unfit-all d c qs))
 
 pub all-unfit : (d c : List ℕ) (w l : ℕ) → accepts (length d) (length c) w l ≡ false → (qs : List Call) → AllUnfit (memoryOf (setUp d c w l)) qs
 all-unfit d c w l e qs = subst (λ (m : Memory). AllUnfit m qs) (sym (refused-memory d c w l e)) (unfit-all d c qs)
 
 -- After one that is not refused the store is fit after each call, whatever the calls.
-fit-all : (qs : List Call) (i : Image) → Wellformed i → AllFit (whole i) qs
+fit-all : (qs : List Call) (i : Image) → Wellformed i → AllFit (encoded i) qs
 fit-all [] i h = tt
 fit-all (q ∷ qs) i h =
     let e = crossed i h q in
     let k = perform-kept q i h .fine in (
-      subst (λ (x : After (Gives q)). fits (x .store) (length (x .dataBytes)) (length (x .commitBytes)) ≡ true) (sym e) (fits-whole (perform q i .image) k),
-      subst (λ (x : After (Gives q)). AllFit (memoryOf x) qs) (sym e) (fit-all qs (perform q i .image) k),
+      subst (λ (x : After (Result q)). fits (x .store) (length (x .dataBytes)) (length (x .commitBytes)) ≡ true) (sym e) (fits-whole (perform q i .image) k),
+      subst (λ (x : After (Result q)). AllFit (memoryOf x) qs) (sym e) (fit-all qs (perform q i .image) k),
     )
 
 pub all-fit : (d c : List ℕ) (w l : ℕ) → accepts (length d) (length c) w l ≡ true → (qs : List Call) → AllFit (memoryOf (setUp d c w l)) qs
-all-fit d c w l e qs = subst (λ (m : Memory). AllFit m qs) (sym (set-up-whole d c w l e)) (fit-all qs (first d w l) (first-fine d c w l e))
+all-fit d c w l e qs = subst (λ (m : Memory). AllFit m qs) (sym (set-up-whole d c w l e)) (fit-all qs (firstImage d w l) (first-fine d c w l e))

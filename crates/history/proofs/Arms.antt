@@ -10,14 +10,14 @@ use mathlib.Core.Option.{IsSome}
 use native.Mathlib.Decide.{ℕ-discrete, decLe}
 use native.Mathlib.Omega.{arith}
 use Rattle.history.proofs.Lists.{first-in, ite-elim}
-use Rattle.history.proofs.Tickets.{Others, low, taken, own, listing, listing-has, look, look-keeps, count, count-none}
-use Rattle.history.proofs.Model.{free, DRow, Client, State, find, valueAt, rphase, cphase, rph, cph, put, same, clearC, atStage, withRequest, withCommit, withRwait, withCwait, Out, out, step-to, takeR, takeC, listR, listC, lookR, lookC, sharing?, withClients}
-use Rattle.history.proofs.Entries.{is-some, value-at, row-find}
-use Rattle.history.proofs.Plain.{Plain, setP, plain, onAdvance, onProgress, onStage, moved, took, Right, RightAdvance, Shares, Wrote, restaged}
-use Rattle.history.proofs.Took.{HasRow}
+use Rattle.history.proofs.Tickets.{Others, low, taken, own, listing, listing-has, look, look-keeps, listSize, count-none}
+use Rattle.history.proofs.Model.{freeₛ, DRow, Client, State, findₛ, valueAtₛ, rphase, cphase, rph, cph, putₛ, same, clearC, atStageₛ, withRequest, withCommit, withRwait, withCwait, Out, out, step-to, takeR, takeC, listR, listC, lookR, lookC, sharing?, withClientsₛ}
+use Rattle.history.proofs.Booked.{is-some, value-at, row-find}
+use Rattle.history.proofs.Plain.{Plain, setP, updateₚ, onAdvanceₚ, onProgressₚ, onStageₚ, movedₚ, onNumberₚ, Rightₚ, RightAdvanceₚ, Sharesₚ, Wroteₚ, restaged}
+use Rattle.history.proofs.Transition.{HasRow}
 use Rattle.history.proofs.Invariant.{lateness, Rel, Always, RQ, CQ, Inv}
 use Rattle.history.proofs.Moves.{put-at, setP-at, setP-off, each, Tame, tame-same, tame-C, off, others-R, others-C, stepped, moves}
-use Rattle.spec.specs.Table.{Told}
+use Rattle.spec.specs.Table.{Observed}
 use Rattle.spec.specs.Right.{Bounds}
 use Rattle.spec.specs.declared.Progress.the-variants.{Stage, Waiting}
 use Rattle.spec.specs.Answers.{Answer, Answered}
@@ -25,8 +25,8 @@ use Rattle.spec.specs.Run.{Call, Advance}
 use Rattle.spec.specs.Set.{clients}
 
 -- A call's outcome: the answer is right, and the invariant holds afterwards.
-abbrev pub Good : Bounds → State → Plain → (q : Call) → Out (Answer (Told q)) → Type 0
-Good bounds s p q o = Right bounds (s .W) p q (o .answer) (free (o .state)) × Inv bounds (o .state) (plain p q (o .answer))
+abbrev pub Good : Bounds → State → Plain → (q : Call) → Out (Answer (Observed q)) → Type 0
+Good bounds s p q o = Rightₚ bounds (s .W) p q (o .answer) (freeₛ (o .state)) × Inv bounds (o .state) (updateₚ p q (o .answer))
 
 pub cph-in : (k : ℕ) → k < 13 → cphase k ≡ min (k - 6) 5
 unfolding cphase
@@ -36,8 +36,8 @@ pub cph-out : (k : ℕ) → 13 ≤ k → cphase k ≡ 0
 unfolding cphase
 cph-out k h = if-pos (decLe 13 k) h _ _
 
-pub onStage-moved : (p : Plain) (a k : ℕ) → k ≢ 8 → k ≢ 12 → onStage p a k ≡ moved p a k
-unfolding onStage
+pub onStage-moved : (p : Plain) (a k : ℕ) → k ≢ 8 → k ≢ 12 → onStageₚ p a k ≡ movedₚ p a k
+unfolding onStageₚ
 onStage-moved p a k m n = if-neg (ℕ-discrete k 8) m _ _ ∙ if-neg (ℕ-discrete k 12) n _ _
 
 pub late-step : (j k : ℕ) → k ≡ suc j → k ≢ 12 → lateness k ≡ lateness j
@@ -45,26 +45,26 @@ unfolding lateness
 late-step j k e n = omega arith
 
 -- Those who wrote a cell of both are found by the rows.
-sharing : (d : List DRow) (t u : ℕ) → Shares (λ x. find t x d) (λ x. find u x d) → (r : DRow) × In r d × ((r .tag ≡ t) × IsSome (find u (r .cell) d))
-unfolding find
+sharing : (d : List DRow) (t u : ℕ) → Sharesₚ (λ x. findₛ t x d) (λ x. findₛ u x d) → (r : DRow) × In r d × ((r .tag ≡ t) × IsSome (findₛ u (r .cell) d))
+unfolding findₛ
 sharing d t u h =
-    let w = is-some (find t (h .0) d) (h .1) in
-    let r = first-in (valueAt t (h .0)) d (w .0) (w .1) in
+    let w = is-some (findₛ t (h .0) d) (h .1) in
+    let r = first-in (valueAtₛ t (h .0)) d (w .0) (w .1) in
     let e = value-at t (h .0) (r .0) (w .0) (r .2) in
     (r .0, r .1, (e .0, rw (e .1) (h .2)))
 
 module _ {bounds : Bounds} {s : State} {p : Plain} (inv : Inv bounds s p) (a : ℕ) (isopen : 1 ≤ s .cl a .number) where
-  pub right-stage : (k : ℕ) → k ≡ suc (s .cl a .stage) → k ≢ 6 → k ≢ 12 → (k ≡ 1 → Wrote (p .cl a)) → RightAdvance p a (Answered (Stage k))
+  pub right-stage : (k : ℕ) → k ≡ suc (s .cl a .stage) → k ≢ 6 → k ≢ 12 → (k ≡ 1 → Wroteₚ (p .cl a)) → RightAdvanceₚ p a (Answered (Stage k))
   right-stage k e m n w = (inv .one a .live isopen, (omega (arith, inv .one a .on-stage), w, λ h. absurd (m h), λ h. absurd (n h)))
 
   -- A step to stage k that takes no commit number and makes no commit.
   module _ (c : Client) (f : Client → Client) (tame : Tame a f) (R : ℕ) (e : c .stage ≡ suc (s .cl a .stage))
       (number : c .number ≡ s .cl a .number) (snapshot : c .snapshot ≡ s .cl a .snapshot) (commit : c .commit ≡ s .cl a .commit)
       (not8 : c .stage ≢ 8) (not12 : c .stage ≢ 12) (not6 : c .stage ≢ 6)
-      (wrote : c .stage ≡ 1 → Wrote (p .cl a)) where
-    pub goes : RQ (stepped s R (s .C) (put a c f (s .cl))) → CQ (stepped s R (s .C) (put a c f (s .cl)))
-        → Good bounds s p (Advance a) (out (stepped s R (s .C) (put a c f (s .cl))) (Answered (Stage (c .stage))))
-    unfolding plain onAdvance onProgress
+      (wrote : c .stage ≡ 1 → Wroteₚ (p .cl a)) where
+    pub goes : RQ (stepped s R (s .C) (putₛ a c f (s .cl))) → CQ (stepped s R (s .C) (putₛ a c f (s .cl)))
+        → Good bounds s p (Advance a) (out (stepped s R (s .C) (putₛ a c f (s .cl))) (Answered (Stage (c .stage))))
+    unfolding updateₚ onAdvanceₚ onProgressₚ
     goes rq cq = (
       right-stage (c .stage) e not6 not12 wrote,
       rw (onStage-moved p a (c .stage) not8 not12)
@@ -79,60 +79,60 @@ module _ {bounds : Bounds} {s : State} {p : Plain} (inv : Inv bounds s p) (a : �
   -- Client a becomes c; the rows stay.
   module _ (c : Client) (f : Client → Client) (tame : Tame a f) (number : c .number ≡ s .cl a .number) (R C : ℕ) (hR : s .R ≤ R) (hC : s .C ≤ C) where
     oR : Others a (rph s) (λ b. s .cl b .request) (λ b. s .cl b .rwait) (s .R) (Rel (s .dat) (s .cl))
-        (λ b. rphase (put a c f (s .cl) b .stage)) (λ b. put a c f (s .cl) b .request) (λ b. put a c f (s .cl) b .rwait) R (Rel (s .dat) (put a c f (s .cl)))
+        (λ b. rphase (putₛ a c f (s .cl) b .stage)) (λ b. putₛ a c f (s .cl) b .request) (λ b. putₛ a c f (s .cl) b .rwait) R (Rel (s .dat) (putₛ a c f (s .cl)))
     oR = others-R a c f tame (s .cl) (s .dat) (s .dat) hR (λ b _ x h. rw (numbers b) at h)
       where
-        numbers : (b : ℕ) → put a c f (s .cl) b .number ≡ s .cl b .number
-        numbers = each a (λ b. put a c f (s .cl) b .number ≡ s .cl b .number) (rw (put-at a c f (s .cl)) number) (off a c f tame (s .cl) (λ d. d .number) (tame .number))
+        numbers : (b : ℕ) → putₛ a c f (s .cl) b .number ≡ s .cl b .number
+        numbers = each a (λ b. putₛ a c f (s .cl) b .number ≡ s .cl b .number) (rw (put-at a c f (s .cl)) number) (off a c f tame (s .cl) (λ d. d .number) (tame .number))
 
     oC : Others a (cph s) (λ b. s .cl b .commit) (λ b. s .cl b .cwait) (s .C) Always
-        (λ b. cphase (put a c f (s .cl) b .stage)) (λ b. put a c f (s .cl) b .commit) (λ b. put a c f (s .cl) b .cwait) C Always
+        (λ b. cphase (putₛ a c f (s .cl) b .stage)) (λ b. putₛ a c f (s .cl) b .commit) (λ b. putₛ a c f (s .cl) b .cwait) C Always
     oC = others-C a c f tame (s .cl) hC
 
-    R-low : rphase (c .stage) ≤ 1 → RQ (stepped s R C (put a c f (s .cl)))
+    R-low : rphase (c .stage) ≤ 1 → RQ (stepped s R C (putₛ a c f (s .cl)))
     R-low h = low a (inv .rq) oR (rw (put-at a c f (s .cl)) h)
 
-    pub C-low : cphase (c .stage) ≤ 1 → CQ (stepped s R C (put a c f (s .cl)))
+    pub C-low : cphase (c .stage) ≤ 1 → CQ (stepped s R C (putₛ a c f (s .cl)))
     C-low h = low a (inv .cq) oC (rw (put-at a c f (s .cl)) h)
 
-    R-taken : rphase (c .stage) ≤ 3 → c .request ≡ suc (s .R) → R ≡ suc (s .R) → RQ (stepped s R C (put a c f (s .cl)))
+    R-taken : rphase (c .stage) ≤ 3 → c .request ≡ suc (s .R) → R ≡ suc (s .R) → RQ (stepped s R C (putₛ a c f (s .cl)))
     R-taken h e = taken a (inv .rq) oR (rw (put-at a c f (s .cl)) h) (rw (put-at a c f (s .cl)) e)
 
-    C-taken : cphase (c .stage) ≤ 3 → c .commit ≡ suc (s .C) → C ≡ suc (s .C) → CQ (stepped s R C (put a c f (s .cl)))
+    C-taken : cphase (c .stage) ≤ 3 → c .commit ≡ suc (s .C) → C ≡ suc (s .C) → CQ (stepped s R C (putₛ a c f (s .cl)))
     C-taken h e = taken a (inv .cq) oC (rw (put-at a c f (s .cl)) h) (rw (put-at a c f (s .cl)) e)
 
     module _ (fr : (d : Client) → f d .rwait ≡ d .rwait) (h : 2 ≤ rph s a) (e : c .request ≡ s .cl a .request) where
       R-own : (rphase (c .stage) ≡ 4 → (b : ℕ) → b ≢ a → 2 ≤ rph s b → Rel (s .dat) (s .cl) b a → s .cl b .request < s .cl a .request → c .rwait b ≡ true)
           → (5 ≤ rphase (c .stage) → (b : ℕ) → b ≢ a → 2 ≤ rph s b → Rel (s .dat) (s .cl) b a → s .cl b .request < s .cl a .request → ⊥)
-          → RQ (stepped s R C (put a c f (s .cl)))
+          → RQ (stepped s R C (putₛ a c f (s .cl)))
       R-own lists passes =
           own a (inv .rq) oR h (rw (put-at a c f (s .cl)) e) (λ b n. ap (λ (w : ℕ → Bool). w a) (off a c f tame (s .cl) (λ d. d .rwait) fr b n))
           (rw (put-at a c f (s .cl)) lists) (rw (put-at a c f (s .cl)) passes)
 
-      R-stay : rphase (c .stage) ≡ rph s a → c .rwait ≡ s .cl a .rwait → RQ (stepped s R C (put a c f (s .cl)))
+      R-stay : rphase (c .stage) ≡ rph s a → c .rwait ≡ s .cl a .rwait → RQ (stepped s R C (putₛ a c f (s .cl)))
       R-stay k w = R-own (λ k′ b n hb r l. ap (λ (w : ℕ → Bool). w b) w ∙ inv .rq .listed b a n hb (sym k ∙ k′) r l) (λ k′ b n hb r l. inv .rq .passed b a n hb (omega arith) r l)
 
     module _ (fc : (d : Client) → f d .cwait ≡ d .cwait) (h : 2 ≤ cph s a) (e : c .commit ≡ s .cl a .commit) where
       pub C-own : (cphase (c .stage) ≡ 4 → (b : ℕ) → b ≢ a → 2 ≤ cph s b → Always b a → s .cl b .commit < s .cl a .commit → c .cwait b ≡ true)
           → (5 ≤ cphase (c .stage) → (b : ℕ) → b ≢ a → 2 ≤ cph s b → Always b a → s .cl b .commit < s .cl a .commit → ⊥)
-          → CQ (stepped s R C (put a c f (s .cl)))
+          → CQ (stepped s R C (putₛ a c f (s .cl)))
       C-own lists passes =
           own a (inv .cq) oC h (rw (put-at a c f (s .cl)) e) (λ b n. ap (λ (w : ℕ → Bool). w a) (off a c f tame (s .cl) (λ d. d .cwait) fc b n))
           (rw (put-at a c f (s .cl)) lists) (rw (put-at a c f (s .cl)) passes)
 
   -- The arms that only move the client on. k is the stage it comes to.
   abbrev to : ℕ → Client
-  to k = atStage (s .cl a) k
+  to k = atStageₛ (s .cl a) k
 
-  module _ (k : ℕ) (e : k ≡ suc (s .cl a .stage)) (n6 : k ≢ 6) (n8 : k ≢ 8) (n12 : k ≢ 12) (wrote : k ≡ 1 → Wrote (p .cl a)) where
-    simply : RQ (stepped s (s .R) (s .C) (put a (to k) same (s .cl))) → CQ (stepped s (s .R) (s .C) (put a (to k) same (s .cl))) → Good bounds s p (Advance a) (step-to s a k)
+  module _ (k : ℕ) (e : k ≡ suc (s .cl a .stage)) (n6 : k ≢ 6) (n8 : k ≢ 8) (n12 : k ≢ 12) (wrote : k ≡ 1 → Wroteₚ (p .cl a)) where
+    simply : RQ (stepped s (s .R) (s .C) (putₛ a (to k) same (s .cl))) → CQ (stepped s (s .R) (s .C) (putₛ a (to k) same (s .cl))) → Good bounds s p (Advance a) (step-to s a k)
     simply rq cq = goes (to k) same (tame-same a) (s .R) e refl refl refl n8 n12 n6 wrote rq cq
 
   pub le : {x : ℕ} → x ≤ x
   le = omega arith
 
   -- a row of an open client below stage 12 is one of its writes
-  row-wrote : s .cl a .stage < 12 → HasRow (s .cl a .number) (s .dat) → Wrote (p .cl a)
+  row-wrote : s .cl a .stage < 12 → HasRow (s .cl a .number) (s .dat) → Wroteₚ (p .cl a)
   unfolding lateness
   row-wrote h r =
       (r .0 .cell, rw (inv .tab .mine a isopen .held (omega arith) (r .0 .cell)) at (row-find (s .cl a .number) (r .0 .cell) (s .dat) (r .0) (r .1) (r .2) refl))
@@ -174,9 +174,9 @@ module _ {bounds : Bounds} {s : State} {p : Plain} (inv : Inv bounds s p) (a : �
 
   -- A waiting client's place: nothing of the plain table changes.
   waits : (c : Client) → c .stage ≡ s .cl a .stage → c .number ≡ s .cl a .number → c .snapshot ≡ s .cl a .snapshot → c .commit ≡ s .cl a .commit → (p .cl a .stage ≡ 4) ⊎ (p .cl a .stage ≡ 10) → (n : ℕ)
-      → RQ (stepped s (s .R) (s .C) (put a c same (s .cl))) → CQ (stepped s (s .R) (s .C) (put a c same (s .cl)))
-      → Good bounds s p (Advance a) (out (stepped s (s .R) (s .C) (put a c same (s .cl))) (Answered (Waiting n)))
-  unfolding plain onAdvance onProgress
+      → RQ (stepped s (s .R) (s .C) (putₛ a c same (s .cl))) → CQ (stepped s (s .R) (s .C) (putₛ a c same (s .cl)))
+      → Good bounds s p (Advance a) (out (stepped s (s .R) (s .C) (putₛ a c same (s .cl))) (Answered (Waiting n)))
+  unfolding updateₚ onAdvanceₚ onProgressₚ
   waits c e number snapshot commit at n rq cq = (
     (inv .one a .live isopen, at),
     moves inv a c same (tame-same a) (s .R) (s .C) (p .count) (p .cl a .commit) (inv .counted) (p .cl)
@@ -190,13 +190,13 @@ module _ {bounds : Bounds} {s : State} {p : Plain} (inv : Inv bounds s p) (a : �
   pub arm4 : s .cl a .stage ≡ 4 → Good bounds s p (Advance a) (lookR s a (look (rph s) (λ b. s .cl b .request) a (s .cl a .rwait)))
   unfolding rphase lookR
   arm4 e =
-      ite-elim (Good bounds s p (Advance a)) (ℕ-discrete (count clients w) 0)
+      ite-elim (Good bounds s p (Advance a)) (ℕ-discrete (listSize clients w) 0)
       (λ z. goes (c 5) same (tame-same a) (s .R) (omega arith) refl refl refl (omega arith) (omega arith) (omega arith) (λ h. absurd (omega arith))
       (R-own (c 5) same (tame-same a) refl (s .R) (s .C) le le (λ d. refl) (omega arith) refl
       (λ h. absurd (omega arith))
       (λ _ b n hb r l. count-none clients w z b (open-below b (omega arith)) (still b n hb r l)))
       (C-low (c 5) same (tame-same a) refl (s .R) (s .C) le le (omega (arith, cph-in 5 (omega arith)))))
-      (λ z. waits (c 4) (sym e) refl refl refl (inl (inv .one a .on-stage ∙ e)) (count clients w)
+      (λ z. waits (c 4) (sym e) refl refl refl (inl (inv .one a .on-stage ∙ e)) (listSize clients w)
       (R-own (c 4) same (tame-same a) refl (s .R) (s .C) le le (λ d. refl) (omega arith) refl (λ _. still) (λ h. absurd (omega arith)))
       (C-low (c 4) same (tame-same a) refl (s .R) (s .C) le le (omega (arith, cph-in 4 (omega arith)))))
     where
@@ -212,7 +212,7 @@ module _ {bounds : Bounds} {s : State} {p : Plain} (inv : Inv bounds s p) (a : �
   -- From stage 5 on nothing of the request queue changes.
   module _ (c : Client) (f : Client → Client) (tame : Tame a f) (fr : (d : Client) → f d .rwait ≡ d .rwait) (number : c .number ≡ s .cl a .number)
       (C : ℕ) (hC : s .C ≤ C) (h : 5 ≤ s .cl a .stage) (h′ : 5 ≤ c .stage) (request : c .request ≡ s .cl a .request) (wait : c .rwait ≡ s .cl a .rwait) where
-    pub R-past : RQ (stepped s (s .R) C (put a c f (s .cl)))
+    pub R-past : RQ (stepped s (s .R) C (putₛ a c f (s .cl)))
     unfolding rphase
     R-past = R-stay c f tame number (s .R) C le hC fr (omega arith) request (omega arith) wait
 
@@ -221,12 +221,12 @@ module _ {bounds : Bounds} {s : State} {p : Plain} (inv : Inv bounds s p) (a : �
       (R-past (to 7) same (tame-same a) (λ d. refl) refl (s .C) le (omega arith) (omega arith) refl refl)
       (C-low (to 7) same (tame-same a) refl (s .R) (s .C) le le (omega (arith, cph-in 7 (omega arith))))
 
-  onStage-took : onStage p a 8 ≡ took p a
-  unfolding onStage
+  onStage-took : onStageₚ p a 8 ≡ onNumberₚ p a
+  unfolding onStageₚ
   onStage-took = if-pos (ℕ-discrete 8 8) refl _ _
 
   pub arm7 : s .cl a .stage ≡ 7 → Good bounds s p (Advance a) (takeC s a)
-  unfolding plain onAdvance onProgress takeC
+  unfolding updateₚ onAdvanceₚ onProgressₚ takeC
   arm7 e = (
     right-stage 8 (omega arith) (omega arith) (omega arith) (λ h. absurd (omega arith)),
     rw onStage-took
@@ -267,13 +267,13 @@ module _ {bounds : Bounds} {s : State} {p : Plain} (inv : Inv bounds s p) (a : �
   pub arm10 : s .cl a .stage ≡ 10 → Good bounds s p (Advance a) (lookC s a (look (cph s) (λ b. s .cl b .commit) a (s .cl a .cwait)))
   unfolding lookC
   arm10 e =
-      ite-elim (Good bounds s p (Advance a)) (ℕ-discrete (count clients w) 0)
+      ite-elim (Good bounds s p (Advance a)) (ℕ-discrete (listSize clients w) 0)
       (λ z. goes (c 11) same (tame-same a) (s .R) (omega arith) refl refl refl (omega arith) (omega arith) (omega arith) (λ h. absurd (omega arith))
       (R-past (c 11) same (tame-same a) (λ d. refl) refl (s .C) le (omega arith) (omega arith) refl refl)
       (C-own (c 11) same (tame-same a) refl (s .R) (s .C) le le (λ d. refl) (omega (arith, cph-in (s .cl a .stage) (omega arith))) refl
       (λ h. absurd (omega (arith, cph-in 11 (omega arith))))
       (λ _ b n hb r l. count-none clients w z b (cph-below b (omega arith)) (still b n hb r l))))
-      (λ z. waits (c 10) (sym e) refl refl refl (inr (inv .one a .on-stage ∙ e)) (count clients w)
+      (λ z. waits (c 10) (sym e) refl refl refl (inr (inv .one a .on-stage ∙ e)) (listSize clients w)
       (R-past (c 10) same (tame-same a) (λ d. refl) refl (s .C) le (omega arith) (omega arith) refl refl)
       (C-own (c 10) same (tame-same a) refl (s .R) (s .C) le le (λ d. refl) (omega (arith, cph-in (s .cl a .stage) (omega arith))) refl (λ _. still)
       (λ h. absurd (omega (arith, cph-in 10 (omega arith))))))
@@ -289,7 +289,7 @@ module _ {bounds : Bounds} {s : State} {p : Plain} (inv : Inv bounds s p) (a : �
           look-keeps (cph s) (λ b. s .cl b .commit) a (s .cl a .cwait) b (omega arith) (omega arith)
           ∙ inv .cq .listed b a n hb (omega (arith, cph-in (s .cl a .stage) (omega arith))) r l
 
-  pub arm12 : s .cl a .stage ≡ 12 → Good bounds s p (Advance a) (out (withClients s (put a (atStage (clearC a (s .cl a)) 13) (clearC a) (s .cl))) (Answered (Stage 13)))
-  arm12 e = goes (atStage (clearC a (s .cl a)) 13) (clearC a) (tame-C a) (s .R) (omega arith) refl refl refl (omega arith) (omega arith) (omega arith) (λ h. absurd (omega arith))
-      (R-past (atStage (clearC a (s .cl a)) 13) (clearC a) (tame-C a) (λ d. refl) refl (s .C) le (omega arith) (omega arith) refl refl)
-      (C-low (atStage (clearC a (s .cl a)) 13) (clearC a) (tame-C a) refl (s .R) (s .C) le le (omega (arith, cph-out 13 (omega arith))))
+  pub arm12 : s .cl a .stage ≡ 12 → Good bounds s p (Advance a) (out (withClientsₛ s (putₛ a (atStageₛ (clearC a (s .cl a)) 13) (clearC a) (s .cl))) (Answered (Stage 13)))
+  arm12 e = goes (atStageₛ (clearC a (s .cl a)) 13) (clearC a) (tame-C a) (s .R) (omega arith) refl refl refl (omega arith) (omega arith) (omega arith) (λ h. absurd (omega arith))
+      (R-past (atStageₛ (clearC a (s .cl a)) 13) (clearC a) (tame-C a) (λ d. refl) refl (s .C) le (omega arith) (omega arith) refl refl)
+      (C-low (atStageₛ (clearC a (s .cl a)) 13) (clearC a) (tame-C a) refl (s .R) (s .C) le le (omega (arith, cph-out 13 (omega arith))))

@@ -14,39 +14,39 @@ use Rattle.spec.specs.Choice.{if_then_else_}
 use Rattle.spec.specs.declared.Progress.the-variants.{Stage, Waiting, Conflict, Done}
 use Rattle.spec.specs.Answers.{Answer, Answered, Refused}
 use Rattle.spec.specs.Run.{Call, Begin, Read, Write, Advance, Abandon, Trim, Free, Memory}
-use Rattle.spec.specs.Table.{Value, Values, has, Commit, Open, Table, blank, orElse, commits, reaches, Told, tell}
-use Rattle.spec.specs.Right.{Bounds, lastNumber, RightProgress, Right, tells, RightRun}
+use Rattle.spec.specs.Table.{Value, Values, has, Commit, Open, Table, blank, orElse, onCommit, onStage, Observed, update}
+use Rattle.spec.specs.Right.{Bounds, lastNumber, RightProgress, Right, observed, RightRun}
 use Rattle.history.proofs.Lists.{in-nil, in-left, in-right, append-case, in-one}
 use Rattle.history.specs.Afterwards.{tableAfter}
 use Rattle.history.specs.Demand.{Rising, Valued}
 
 -- a claim on a choice, by its branches
-pub either : (P : Table → Type 0) (b : Bool) {s t : Table} → (b ≡ true → P s) → (b ≡ false → P t) → P (if b then s else t)
-either P true f g = f refl
-either P false f g = g refl
+pub by-branch : (P : Table → Type 0) (b : Bool) {s t : Table} → (b ≡ true → P s) → (b ≡ false → P t) → P (if b then s else t)
+by-branch P true f g = f refl
+by-branch P false f g = g refl
 
 -- ---- what holds after every list of rightly answered calls
 
 -- a claim on the table that every rightly answered call keeps
 module _ (n : Bounds) (P : Table → Type 0)
-    (keeps : (w : ℕ) (t : Table) (q : Call) (a : Answer (Told q)) (next : Answer ℕ) → Right n w t q a next → P t → P (tell q a t)) where
+    (keeps : (w : ℕ) (t : Table) (q : Call) (a : Answer (Observed q)) (next : Answer ℕ) → Right n w t q a next → P t → P (update q a t)) where
   pub along : (qs : List Call) (w : ℕ) (t : Table) (m : Memory) → RightRun n w t m qs → P t → P (tableAfter qs m t)
   along [] w t m r h = h
-  along (q ∷ qs) w t m r h = along qs _ _ _ (r .1) (keeps w t q (tells q m) _ (r .0) h)
+  along (q ∷ qs) w t m r h = along qs _ _ _ (r .1) (keeps w t q (observed q m) _ (r .0) h)
 
 -- a claim on values and book that every commit numbered above the last keeps
 module _ (P : Values → List Commit → Type 0)
-    (made : (k : ℕ) (t : Table) (o : Open) → lastNumber (t .book) < o .commit → P (t .values) (t .book) → P (commits k t o .values) (commits k t o .book)) where
+    (made : (k : ℕ) (t : Table) (o : Open) → lastNumber (t .book) < o .commit → P (t .values) (t .book) → P (onCommit k t o .values) (onCommit k t o .book)) where
   stage-keeps : (t : Table) (o : Open) (k g : ℕ) → RightProgress t o (Stage g) → P (t .values) (t .book)
-      → P (reaches k g t (some o) .values) (reaches k g t (some o) .book)
-  unfolding reaches
+      → P (onStage k g t (some o) .values) (onStage k g t (some o) .book)
+  unfolding onStage
   stage-keeps t o k g r h =
-      either (λ s. P (s .values) (s .book)) (eqb g 8) (λ _. h)
-      (λ _. either (λ s. P (s .values) (s .book)) (eqb g 12) (λ e. made k t o (r .1 .1 .1 (eqb-true g 12 e) .1) h) (λ _. h))
+      by-branch (λ s. P (s .values) (s .book)) (eqb g 8) (λ _. h)
+      (λ _. by-branch (λ s. P (s .values) (s .book)) (eqb g 12) (λ e. made k t o (r .1 .1 .1 (eqb-true g 12 e) .1) h) (λ _. h))
 
-  call-keeps : (n : Bounds) (w : ℕ) (t : Table) (q : Call) (a : Answer (Told q)) (next : Answer ℕ) → Right n w t q a next → P (t .values) (t .book)
-      → P (tell q a t .values) (tell q a t .book)
-  unfolding tell
+  call-keeps : (n : Bounds) (w : ℕ) (t : Table) (q : Call) (a : Answer (Observed q)) (next : Answer ℕ) → Right n w t q a next → P (t .values) (t .book)
+      → P (update q a t .values) (update q a t .book)
+  unfolding update
   call-keeps n w t q (Refused m) next r h = h
   call-keeps n w t (Begin k) (Answered a) next r h = h
   call-keeps n w t (Read k x) (Answered a) next r h = h
@@ -91,7 +91,7 @@ over-right : (a b : Option Value) → has b ≡ true → has (orElse a b) ≡ tr
 over-right none b e = e
 over-right (some v) b e = refl
 
-valued-append : (x k : ℕ) (t : Table) (o : Open) → Valued x (t .values) (t .book) → Valued x (commits k t o .values) (commits k t o .book)
+valued-append : (x k : ℕ) (t : Table) (o : Open) → Valued x (t .values) (t .book) → Valued x (onCommit k t o .values) (onCommit k t o .book)
 valued-append x k t o h = record {
   ever = λ e.
       over-case (o .writes x) (t .values x) e

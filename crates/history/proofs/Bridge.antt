@@ -1,4 +1,4 @@
--- From images to the record and the bytes of both buffers. A well-formed image i has one layout, `whole i`: its record, and each buffer with
+-- From images to the record and the bytes of both buffers. A well-formed image i has one layout, `encoded i`: its record, and each buffer with
 -- its rows and then zero. A call on that layout is the call on the image: the store is fit, the image is read back, and what the call leaves is
 -- laid out as the layout of the image it leaves (`crossed`, for a call of any kind that keeps images well-formed). A set-up that is not refused
 -- hands back the layout of the empty image. After a refused one the record has 0 rows, so that the store is unfit.
@@ -15,19 +15,19 @@ use Rattle.spec.specs.Rows.{rowsIn}
 use Rattle.spec.specs.Answers.{Answer, Refused, unfit}
 use Rattle.spec.specs.Image.{Image, empty}
 use Rattle.spec.specs.Calls.{Outcome}
-use Rattle.spec.specs.Bytes.{After, leaves, seen, storeOf, laidOut, known, fits, after, limitOf, accepts, setUp}
-use Rattle.spec.specs.Run.{Call, perform, Memory, memoryOf, takes}
+use Rattle.spec.specs.Bytes.{After, afterOf, decode, storeOf, encode, known, fits, onBytes, limitOf, accepts, setUp}
+use Rattle.spec.specs.Run.{Call, perform, Memory, memoryOf, step}
 use Rattle.spec.proofs.Ends.{accepted}
 use Rattle.history.proofs.Spread.{spread, length-spread, rows-spread, laid-spread}
 use Rattle.history.proofs.Wellformed.{Wellformed, Kept, perform-kept, empty-fine}
 
 -- the layout of an image
-unfoldable pub whole : Image → Memory
-whole i = record { store = storeOf i; dataBytes = spread 24 (i .rows) (i .dataRows); commitBytes = spread 8 (i .rows) (i .commitRows) }
+unfoldable pub encoded : Image → Memory
+encoded i = record { store = storeOf i; dataBytes = spread 24 (i .rows) (i .dataRows); commitBytes = spread 8 (i .rows) (i .commitRows) }
 
 -- a layout and an answer
 abbrev pub with : {A : Type 0} → Memory → Answer A → After A
-with m a = leaves (m .store) (m .dataBytes) (m .commitBytes) a
+with m a = afterOf (m .store) (m .dataBytes) (m .commitBytes) a
 
 -- ---- one call, of any kind that keeps images well-formed
 
@@ -38,8 +38,8 @@ known-all l (suc n) h = rw (le-ltb 13 (getD l n 0) (h n)) (known-all l n h)
 
 module _ (i : Image) (h : Wellformed i) where
   -- an image laid out is a fit store
-  pub fits-whole : fits (whole i .store) (length (whole i .dataBytes)) (length (whole i .commitBytes)) ≡ true
-  unfolding fits whole storeOf
+  pub fits-whole : fits (encoded i .store) (length (encoded i .dataBytes)) (length (encoded i .commitBytes)) ≡ true
+  unfolding fits encoded storeOf
   fits-whole =
       rw (
         length-spread 24 (i .rows) (i .dataRows) (h .dataWide) (h .dataFit),
@@ -54,13 +54,13 @@ module _ (i : Image) (h : Wellformed i) where
       (known-all (i .clients .stage) clients (h .tidy .stage .each))
 
   -- and shows that image
-  seen-whole : seen (whole i .store) (whole i .dataBytes) (whole i .commitBytes) ≡ i
-  unfolding seen whole storeOf
+  seen-whole : decode (encoded i .store) (encoded i .dataBytes) (encoded i .commitBytes) ≡ i
+  unfolding decode encoded storeOf
   seen-whole = rw (rows-spread 24 (i .rows) (i .dataRows) (h .dataWide), rows-spread 8 (i .rows) (i .commitRows) (h .commitWide))
 
   -- what a call makes of it, laid out in its place, is the call's image laid out
-  laid-out : {A : Type 0} (o : Outcome A) → Kept i o → laidOut (whole i .store) (whole i .dataBytes) (whole i .commitBytes) o ≡ with (whole (o .image)) (o .answer)
-  unfolding laidOut whole storeOf
+  laid-out : {A : Type 0} (o : Outcome A) → Kept i o → encode (encoded i .store) (encoded i .dataBytes) (encoded i .commitBytes) o ≡ with (encoded (o .image)) (o .answer)
+  unfolding encode encoded storeOf
   laid-out o k =
       let d : length (o .image .dataRows) ≤ i .rows = rw (k .size) at (k .fine .dataFit) in
       let c : length (o .image .commitRows) ≤ i .rows = rw (k .size) at (k .fine .commitFit) in
@@ -71,33 +71,33 @@ module _ (i : Image) (h : Wellformed i) where
       )
 
   bridge-call : {A : Type 0} (f : Image → Outcome A) → Kept i (f i)
-      → after f (whole i .store) (whole i .dataBytes) (whole i .commitBytes) ≡ with (whole (f i .image)) (f i .answer)
-  unfolding after
+      → onBytes f (encoded i .store) (encoded i .dataBytes) (encoded i .commitBytes) ≡ with (encoded (f i .image)) (f i .answer)
+  unfolding onBytes
   bridge-call f k = rw (fits-whole, seen-whole) (laid-out (f i) k)
 
   -- so a call on the record and the buffers is the call on the image
-  pub crossed : (q : Call) → takes q (whole i) ≡ with (whole (perform q i .image)) (perform q i .answer)
+  pub crossed : (q : Call) → step q (encoded i) ≡ with (encoded (perform q i .image)) (perform q i .answer)
   crossed q = bridge-call (perform q) (perform-kept q i h)
 
   -- the data rows in use
-  pub used-rows : rowsIn 24 (whole i .store .used) (whole i .dataBytes) ≡ i .dataRows
-  unfolding whole storeOf
+  pub used-rows : rowsIn 24 (encoded i .store .used) (encoded i .dataBytes) ≡ i .dataRows
+  unfolding encoded storeOf
   used-rows = rows-spread 24 (i .rows) (i .dataRows) (h .dataWide)
 
 -- ---- set-up
 
 -- the image of a set-up that is not refused
-abbrev pub first : List ℕ → ℕ → ℕ → Image
-first d w l = empty (length d / 24) (limitOf l) (w - 1)
+abbrev pub firstImage : List ℕ → ℕ → ℕ → Image
+firstImage d w l = empty (length d / 24) (limitOf l) (w - 1)
 
 module _ (d c : List ℕ) (w l : ℕ) (e : accepts (length d) (length c) w l ≡ true) where
-  pub set-up-whole : memoryOf (setUp d c w l) ≡ whole (first d w l)
-  unfolding setUp whole empty storeOf spread flatten
+  pub set-up-whole : memoryOf (setUp d c w l) ≡ encoded (firstImage d w l)
+  unfolding setUp encoded empty storeOf spread flatten
   set-up-whole =
       let a = accepted (length d) (length c) w l e in
       rw (e, sub-zero (length d / 24), ← a .dataLength, ← a .commitLength)
 
-  pub first-fine : Wellformed (first d w l)
+  pub first-fine : Wellformed (firstImage d w l)
   first-fine = let a = accepted (length d) (length c) w l e in empty-fine (length d / 24) (limitOf l) (w - 1) (a .some) (a .most)
 
 -- what a refused set-up hands back
@@ -108,6 +108,6 @@ pub refused-memory : (d c : List ℕ) (w l : ℕ) → accepts (length d) (length
 unfolding setUp
 refused-memory d c w l e = rw e
 
-pub refused-call : (d c : List ℕ) (q : Call) → takes q (unused d c) ≡ with (unused d c) (Refused unfit)
-unfolding after fits storeOf empty
+pub refused-call : (d c : List ℕ) (q : Call) → step q (unused d c) ≡ with (unused d c) (Refused unfit)
+unfolding onBytes fits storeOf empty
 refused-call d c q = refl

@@ -1,5 +1,5 @@
 -- Every call as one of four changes of the clients: it leaves them as they are, begins one, moves one, or closes one (`Change`), made once from
--- `Took`. What a call does to the queues (`effect`), what it brings to the client that it serves (`served-by`), and that a transaction that it
+-- `Transition`. What a call does to the queues (`effect`), what it brings to the client that it serves (`served-by`), and that a transaction that it
 -- does not close remains (`remains`), each go by these four.
 -- Assumes nothing.
 use Prim.Native.Nat.{ℕ, suc, _≤_, _<_}
@@ -18,14 +18,14 @@ use Rattle.spec.specs.declared.Progress.{Progress}
 use Rattle.spec.specs.declared.Progress.the-variants.{Stage, Waiting, Conflict, Done}
 use Rattle.spec.specs.Answers.{Answer, Answered, Refused}
 use Rattle.spec.specs.Run.{Call, Begin, Read, Write, Advance, Abandon, Trim, Free}
-use Rattle.spec.specs.Table.{Told}
+use Rattle.spec.specs.Table.{Observed}
 use Rattle.history.proofs.Lists.{ite-elim, same-some}
-use Rattle.history.proofs.Tickets.{listing, look, count, clear-own, clear-fewer, listing-only, look-fewer}
-use Rattle.history.proofs.Model.{Client, State, DRow, CRow, Out, out, put, same, clearC, clearBoth, closed, rph, cph, sharing?, begun, overwritten, added, removed, leave, takeR, takeC, listR, listC, lookR, lookC, checked, committed, trimmed, figured, move, step-to, atStage, withRequest, withCommit, withRwait, withCwait}
+use Rattle.history.proofs.Tickets.{listing, look, listSize, clear-own, clear-fewer, listing-only, look-fewer}
+use Rattle.history.proofs.Model.{Client, State, DRow, CRow, Out, out, putₛ, same, clearC, clearBoth, closedₛ, rph, cph, sharing?, begunₛ, overwritten, addedₛ, removedₛ, leave, takeR, takeC, listR, listC, lookR, lookC, checkedₛ, committed, trimmedₛ, figured, move, step-to, atStageₛ, withRequest, withCommit, withRwait, withCwait}
 use Rattle.history.proofs.Moves.{put-at, put-off, Tame, tame-same, tame-C, tame-both}
-use Rattle.history.proofs.Took.{Took, no-begin, no-read, no-write, no-advance, no-abandon, begins, reads, replaces, adds, at0, ends0, at1, at2, at3, at4, at5, at6, at7, at8, at9, at10, at11, at12, at13, abandons, trims, frees}
-use Rattle.history.specs.Rounds.{named, Fate, StillOpen, Abandoned, advanced, abandoned, fateBy, over, advances, serves}
-use Rattle.history.proofs.Effects.{Effect, quiet, opens, closes, ups, after, Fork, Up}
+use Rattle.history.proofs.Transition.{Transition, no-begin, no-read, no-write, no-advance, no-abandon, begins, reads, replaces, adds, at0, ends0, at1, at2, at3, at4, at5, at6, at7, at8, at9, at10, at11, at12, at13, abandons, trims, frees}
+use Rattle.history.specs.Rounds.{named, Fate, StillOpen, Abandoned, byAdvance, byAbandon, fateBy, isOver, isAdvance, serves}
+use Rattle.history.proofs.Effects.{Effect, quiet, beginning, closing, ups, stateWith, Fork, Up}
 
 -- ---- the words of the statement
 
@@ -34,43 +34,43 @@ lasts true f e = e
 lasts false f e = refl
 
 -- who is served by a call is named by it
-serves-named : (b : ℕ) (q : Call) (x : Answer (Told q)) → serves b q x ≡ true → named q ≡ some b
+serves-named : (b : ℕ) (q : Call) (x : Answer (Observed q)) → serves b q x ≡ true → named q ≡ some b
 serves-named b (Begin a) x e = absurd (false≢true e)
 serves-named b (Read a y) x e = absurd (false≢true e)
 serves-named b (Write a y v) x e = absurd (false≢true e)
 serves-named b (Advance a) x e = ap some (go (eqb a b) refl e)
   where
-    go : (c : Bool) → eqb a b ≡ c → (c || over (if c then advanced x else StillOpen)) ≡ true → a ≡ b
+    go : (c : Bool) → eqb a b ≡ c → (c || isOver (if c then byAdvance x else StillOpen)) ≡ true → a ≡ b
     go true i e = eqb-true a b i
     go false i e = absurd (false≢true e)
 serves-named b (Abandon a) x e = ap some (go (eqb a b) refl e)
   where
-    go : (c : Bool) → eqb a b ≡ c → over (if c then abandoned x else StillOpen) ≡ true → a ≡ b
+    go : (c : Bool) → eqb a b ≡ c → isOver (if c then byAbandon x else StillOpen) ≡ true → a ≡ b
     go true i e = eqb-true a b i
     go false i e = absurd (false≢true e)
 serves-named b Trim x e = absurd (false≢true e)
 serves-named b Free x e = absurd (false≢true e)
 
 -- who is not ended by it is advanced
-serves-advances : (b : ℕ) (q : Call) (x : Answer (Told q)) → fateBy b q x ≡ StillOpen → serves b q x ≡ true → advances b q ≡ true
-serves-advances b q x f e = sym (or-false (advances b q)) ∙ ap (λ (z : Fate). advances b q || over z) (sym f) ∙ e
+serves-advances : (b : ℕ) (q : Call) (x : Answer (Observed q)) → fateBy b q x ≡ StillOpen → serves b q x ≡ true → isAdvance b q ≡ true
+serves-advances b q x f e = sym (or-false (isAdvance b q)) ∙ ap (λ (z : Fate). isAdvance b q || isOver z) (sym f) ∙ e
 
 -- ---- the four changes
 
 -- a step of Advance that does not close: one stage up, or a look that leaves someone on the list
 pub data Moved (s : State) (a : ℕ) (c : Client) : Type 0 where
   up : c .stage ≡ suc (s .cl a .stage) → Moved s a c
-  waits-R : s .cl a .stage ≡ 4 → count clients (look (rph s) (λ x. s .cl x .request) a (s .cl a .rwait)) ≢ 0 → Moved s a c
-  waits-C : s .cl a .stage ≡ 10 → count clients (look (cph s) (λ x. s .cl x .commit) a (s .cl a .cwait)) ≢ 0 → Moved s a c
+  waits-R : s .cl a .stage ≡ 4 → listSize clients (look (rph s) (λ x. s .cl x .request) a (s .cl a .rwait)) ≢ 0 → Moved s a c
+  waits-C : s .cl a .stage ≡ 10 → listSize clients (look (cph s) (λ x. s .cl x .commit) a (s .cl a .cwait)) ≢ 0 → Moved s a c
 
-pub data Change (s : State) : (q : Call) → Out (Answer (Told q)) → Type 0 where
-  rests : {q : Call} {x : Answer (Told q)} (t : State) → t .cl ≡ s .cl → t .W ≡ s .W → t .R ≡ s .R → t .C ≡ s .C
-      → ((b : ℕ) → fateBy b q x ≡ StillOpen) → ((b : ℕ) → advances b q ≡ true → s .cl b .stage ≡ 0) → Change s q (out t x)
-  starts : (a : ℕ) → a < clients → s .cl a .number ≡ 0 → Change s (Begin a) (begun s a)
+pub data Change (s : State) : (q : Call) → Out (Answer (Observed q)) → Type 0 where
+  rests : {q : Call} {x : Answer (Observed q)} (t : State) → t .cl ≡ s .cl → t .W ≡ s .W → t .R ≡ s .R → t .C ≡ s .C
+      → ((b : ℕ) → fateBy b q x ≡ StillOpen) → ((b : ℕ) → isAdvance b q ≡ true → s .cl b .stage ≡ 0) → Change s q (out t x)
+  starts : (a : ℕ) → a < clients → s .cl a .number ≡ 0 → Change s (Begin a) (begunₛ s a)
   moves : (a : ℕ) (c : Client) (x : Answer Progress) (f : Client → Client) (R C last : ℕ) (m : List CRow)
       → Up s a c → Moved s a c → 1 ≤ c .stage → Tame a f → (c .stage ≡ 13 → (d : Client) → f d .cwait a ≡ true → ⊥)
-      → s .R ≤ R → s .C ≤ C → Change s (Advance a) (out (after s (s .W) R C last (s .dat) m (put a c f (s .cl))) x)
-  ends : {q : Call} {x : Answer (Told q)} (a : ℕ) (d : List DRow) → named q ≡ some a → fateBy a q x ≢ StillOpen → Change s q (out (leave s a d) x)
+      → s .R ≤ R → s .C ≤ C → Change s (Advance a) (out (stateWith s (s .W) R C last (s .dat) m (putₛ a c f (s .cl))) x)
+  ends : {q : Call} {x : Answer (Observed q)} (a : ℕ) (d : List DRow) → named q ≡ some a → fateBy a q x ≢ StillOpen → Change s q (out (leave s a d) x)
 
 -- ---- the steps of Advance
 
@@ -90,7 +90,7 @@ module _ (s : State) (a : ℕ) where
       → Up s a (record { number = s .cl a .number; stage = k; snapshot = s .cl a .snapshot; request = r; commit = m; rwait = w; cwait = v })
   arm k r m w v l h t fr fc fw fv = record { number = refl; low = l; high = h; top = t; request = fr; commit = fc; rwait = fw; cwait = fv }
 
-  to : (k : ℕ) → k ≡ suc (s .cl a .stage) → k ≢ 2 → k ≢ 8 → k ≢ 4 → k ≢ 10 → k ≤ 13 → Up s a (atStage (s .cl a) k)
+  to : (k : ℕ) → k ≡ suc (s .cl a .stage) → k ≢ 2 → k ≢ 8 → k ≢ 4 → k ≢ 10 → k ≤ 13 → Up s a (atStageₛ (s .cl a) k)
   to k e n2 n8 n4 n10 h =
       arm k _ _ _ _ (omega arith) (omega arith) h
       (off (λ i. n2 (omega arith)) refl) (off (λ i. n8 (omega arith)) refl)
@@ -129,7 +129,7 @@ module _ (s : State) (a : ℕ) where
       (on e (listing-only (cph s) {P = λ _. Unit {0}} (λ _. yes tt) a))
 
   -- it leaves the commit queue, and clears its own bit too
-  leaves-C : s .cl a .stage ≡ 12 → Up s a (atStage (clearC a (s .cl a)) 13)
+  leaves-C : s .cl a .stage ≡ 12 → Up s a (atStageₛ (clearC a (s .cl a)) 13)
   leaves-C e =
       arm 13 _ _ _ _ (omega arith) (omega arith) (omega arith) (off (omega arith) refl) (off (omega arith) refl) (off (omega arith) (λ _ z. z))
       (off (omega arith) (λ x z. clear-fewer a (s .cl a .cwait) x z))
@@ -150,9 +150,9 @@ module _ (s : State) (idle : (b : ℕ) → s .cl b .number ≡ 0 → s .cl b .st
   looked-R a e =
       let w : ℕ → Bool = look (rph s) (λ b. s .cl b .request) a (s .cl a .rwait) in
       let fewer : (x : ℕ) → w x ≡ true → s .cl a .rwait x ≡ true = look-fewer (rph s) (λ b. s .cl b .request) a (s .cl a .rwait) in
-      ite-elim (Change s (Advance a)) (ℕ-discrete (count clients w) 0)
+      ite-elim (Change s (Advance a)) (ℕ-discrete (listSize clients w) 0)
       (λ _. goes a _ (Answered (Stage 5)) (looks-R s a 5 w e (omega arith) (omega arith) fewer) (up (omega arith)) (omega arith) (omega arith))
-      (λ n. goes a _ (Answered (Waiting (count clients w))) (looks-R s a 4 w e (omega arith) (omega arith) fewer) (waits-R e n)
+      (λ n. goes a _ (Answered (Waiting (listSize clients w))) (looks-R s a 4 w e (omega arith) (omega arith) fewer) (waits-R e n)
       (omega arith) (omega arith))
 
   looked-C : (a : ℕ) → s .cl a .stage ≡ 10 → Change s (Advance a) (lookC s a (look (cph s) (λ b. s .cl b .commit) a (s .cl a .cwait)))
@@ -160,18 +160,18 @@ module _ (s : State) (idle : (b : ℕ) → s .cl b .number ≡ 0 → s .cl b .st
   looked-C a e =
       let w : ℕ → Bool = look (cph s) (λ b. s .cl b .commit) a (s .cl a .cwait) in
       let fewer : (x : ℕ) → w x ≡ true → s .cl a .cwait x ≡ true = look-fewer (cph s) (λ b. s .cl b .commit) a (s .cl a .cwait) in
-      ite-elim (Change s (Advance a)) (ℕ-discrete (count clients w) 0)
+      ite-elim (Change s (Advance a)) (ℕ-discrete (listSize clients w) 0)
       (λ _. goes a _ (Answered (Stage 11)) (looks-C s a 11 w e (omega arith) (omega arith) fewer) (up (omega arith)) (omega arith) (omega arith))
-      (λ n. goes a _ (Answered (Waiting (count clients w))) (looks-C s a 10 w e (omega arith) (omega arith) fewer) (waits-C e n)
+      (λ n. goes a _ (Answered (Waiting (listSize clients w))) (looks-C s a 10 w e (omega arith) (omega arith) fewer) (waits-C e n)
       (omega arith) (omega arith))
 
-  finished : (a : ℕ) (d : List DRow) (x : Answer Progress) → over (advanced x) ≡ true → Change s (Advance a) (out (leave s a d) x)
+  finished : (a : ℕ) (d : List DRow) (x : Answer Progress) → isOver (byAdvance x) ≡ true → Change s (Advance a) (out (leave s a d) x)
   finished a d x e =
       ends {q = Advance a} {x = x} a d refl
-      (λ z. false≢true (sym (ap over z) ∙ ap (λ (c : Bool). over (if c then advanced x else StillOpen)) (eq-eqb a a refl) ∙ e))
+      (λ z. false≢true (sym (ap isOver z) ∙ ap (λ (c : Bool). isOver (if c then byAdvance x else StillOpen)) (eq-eqb a a refl) ∙ e))
 
-  checks : (a : ℕ) → s .cl a .stage ≡ 5 → (o : Option (ℕ × DRow)) → Change s (Advance a) (checked s a o)
-  unfolding checked
+  checks : (a : ℕ) → s .cl a .stage ≡ 5 → (o : Option (ℕ × DRow)) → Change s (Advance a) (checkedₛ s a o)
+  unfolding checkedₛ
   checks a e none = simply a 6 (omega arith) (omega arith) (omega arith) (omega arith) (omega arith) (omega arith) (omega arith)
   checks a e (some w) = finished a _ (Answered (Conflict (w .0))) refl
 
@@ -179,8 +179,8 @@ module _ (s : State) (idle : (b : ℕ) → s .cl b .number ≡ 0 → s .cl b .st
   refused : (a : ℕ) → s .cl a .number ≡ 0 → (b : ℕ) → eqb a b ≡ true → s .cl b .stage ≡ 0
   refused a n b e = ap (λ (z : ℕ). s .cl z .stage) (sym (eqb-true a b e)) ∙ idle a n
 
-  pub change : {q : Call} {o : Out (Answer (Told q))} → Took s q o → Change s q o
-  unfolding overwritten added trimmed takeR takeC listR listC committed closed
+  pub change : {q : Call} {o : Out (Answer (Observed q))} → Transition s q o → Change s q o
+  unfolding overwritten addedₛ trimmedₛ takeR takeC listR listC committed closedₛ
   change (no-begin a r m) = rests _ refl refl refl refl (λ _. refl) (λ b z. absurd (false≢true z))
   change (no-read a y r m) = rests _ refl refl refl refl (λ _. refl) (λ b z. absurd (false≢true z))
   change (no-write a y v r m) = rests _ refl refl refl refl (λ _. refl) (λ b z. absurd (false≢true z))
@@ -216,60 +216,60 @@ module _ (s : State) (idle : (b : ℕ) → s .cl b .number ≡ 0 → s .cl b .st
       (tame-C a) (λ _ d. clear-own a (d .cwait)) (omega arith) (omega arith)
   change (at13 a h o e) = finished a (s .dat) (Answered (Done (s .cl a .commit))) refl
   change (abandons a h o k) =
-      ends {q = Abandon a} {x = figured (removed s a) .answer} a _ refl
-      (λ z. false≢true (sym (ap over z) ∙ ap (λ (c : Bool). over (if c then Abandoned else StillOpen)) (eq-eqb a a refl)))
+      ends {q = Abandon a} {x = figured (removedₛ s a) .answer} a _ refl
+      (λ z. false≢true (sym (ap isOver z) ∙ ap (λ (c : Bool). isOver (if c then Abandoned else StillOpen)) (eq-eqb a a refl)))
   change trims = rests _ refl refl refl refl (λ _. refl) (λ b z. absurd (false≢true z))
   change frees = rests _ refl refl refl refl (λ _. refl) (λ b z. absurd (false≢true z))
 
 -- ---- what goes by the four
 
-pub effect : {s : State} → ((b : ℕ) → s .cl b .number ≡ 0 → s .cl b .stage ≡ 0) → {q : Call} {o : Out (Answer (Told q))} → Change s q o
+pub effect : {s : State} → ((b : ℕ) → s .cl b .number ≡ 0 → s .cl b .stage ≡ 0) → {q : Call} {o : Out (Answer (Observed q))} → Change s q o
     → Effect q s (o .state)
 effect {s} idle (rests t e w r c n k) = quiet s t e w r c
-effect {s} idle (starts a h was) = opens s a h (idle a was)
+effect {s} idle (starts a h was) = beginning s a h (idle a was)
 effect {s} idle (moves a c x f R C last m u v l tame out lr lc) = ups u f tame out R C last (s .dat) m lr lc
-effect {s} idle (ends a d e n) = closes s a d
+effect {s} idle (ends a d e n) = closing s a d
 
 -- what the call that serves a client at stage 1 or later brings it: one stage, its end, or a wait with someone on its list
 pub data Brings (s t : State) (b : ℕ) : Type 0 where
   goes-up : t .cl b .stage ≡ suc (s .cl b .stage) → s .cl b .stage ≤ 12 → Brings s t b
   goes-out : t .cl b .stage ≡ 0 → Brings s t b
-  stays-R : s .cl b .stage ≡ 4 → count clients (look (rph s) (λ x. s .cl x .request) b (s .cl b .rwait)) ≢ 0 → Brings s t b
-  stays-C : s .cl b .stage ≡ 10 → count clients (look (cph s) (λ x. s .cl x .commit) b (s .cl b .cwait)) ≢ 0 → Brings s t b
+  stays-R : s .cl b .stage ≡ 4 → listSize clients (look (rph s) (λ x. s .cl x .request) b (s .cl b .rwait)) ≢ 0 → Brings s t b
+  stays-C : s .cl b .stage ≡ 10 → listSize clients (look (cph s) (λ x. s .cl x .commit) b (s .cl b .cwait)) ≢ 0 → Brings s t b
 
-stage-at : (s : State) (a : ℕ) (c : Client) (f : Client → Client) → put a c f (s .cl) a .stage ≡ c .stage
+stage-at : (s : State) (a : ℕ) (c : Client) (f : Client → Client) → putₛ a c f (s .cl) a .stage ≡ c .stage
 stage-at s a c f = ap (λ (d : Client). d .stage) (put-at a c f (s .cl))
 
-brings : {s t : State} {a : ℕ} {c : Client} (f : Client → Client) → t .cl ≡ put a c f (s .cl) → Up s a c → Moved s a c → Brings s t a
+brings : {s t : State} {a : ℕ} {c : Client} (f : Client → Client) → t .cl ≡ putₛ a c f (s .cl) → Up s a c → Moved s a c → Brings s t a
 brings {s} {t} {a} {c} f e u (up i) = goes-up (ap (λ (g : ℕ → Client). g a .stage) e ∙ stage-at s a c f ∙ i) (omega (arith, u .top))
 brings f e u (waits-R i z) = stays-R i z
 brings f e u (waits-C i z) = stays-C i z
 
-pub served-by : {s : State} {q : Call} {o : Out (Answer (Told q))} → Change s q o → (b : ℕ) → serves b q (o .answer) ≡ true → 1 ≤ s .cl b .stage
+pub served-by : {s : State} {q : Call} {o : Out (Answer (Observed q))} → Change s q o → (b : ℕ) → serves b q (o .answer) ≡ true → 1 ≤ s .cl b .stage
     → Brings s (o .state) b
-unfolding closed
+unfolding closedₛ
 served-by (rests {q = q} {x = x} t i w r c n k) b z h = absurd (omega (arith, k b (serves-advances b q x (n b) z)))
 served-by (starts a i was) b z h = absurd (false≢true z)
 served-by {s} (moves a c x f R C last m u v l tame out lr lc) b z h =
     subst (Brings s _) (same-some (serves-named b (Advance a) x z)) (brings f refl u v)
 served-by {s} (ends {q = q} {x = x} a d e n) b z h =
-    subst (Brings s _) (same-some (sym e ∙ serves-named b q x z)) (goes-out (stage-at s a closed (clearBoth a)))
+    subst (Brings s _) (same-some (sym e ∙ serves-named b q x z)) (goes-out (stage-at s a closedₛ (clearBoth a)))
 
 -- a transaction in the request queue that a call does not end is there afterwards
 abbrev pub Remains : Client → Client → Type 0
 Remains c d = (d .number ≡ c .number) × (1 ≤ d .stage)
 
 module _ (s : State) (b : ℕ) (h : 1 ≤ s .cl b .stage) where
-  other : (a : ℕ) (c : Client) (f : Client → Client) → Tame a f → b ≢ a → Remains (s .cl b) (put a c f (s .cl) b)
+  other : (a : ℕ) (c : Client) (f : Client → Client) → Tame a f → b ≢ a → Remains (s .cl b) (putₛ a c f (s .cl) b)
   other a c f tame n = rw (put-off a c f (s .cl) b n) (tame .number (s .cl b), omega (arith, tame .stage (s .cl b)))
 
-  pub remains : {q : Call} {o : Out (Answer (Told q))} → Change s q o → 1 ≤ s .cl b .number → fateBy b q (o .answer) ≡ StillOpen
+  pub remains : {q : Call} {o : Out (Answer (Observed q))} → Change s q o → 1 ≤ s .cl b .number → fateBy b q (o .answer) ≡ StillOpen
       → Remains (s .cl b) (o .state .cl b)
-  unfolding begun
+  unfolding begunₛ
   remains (rests t e w r c n k) p f = (ap (λ (g : ℕ → Client). g b .number) e, rw e h)
   remains (starts a i was) p f = other a _ same (tame-same a) (λ e. omega (arith, ap (λ (y : ℕ). s .cl y .number) e))
   remains (moves a c x j R C last m u v i tame out lr lc) p f =
       by-cases (ℕ-discrete b a)
-      (λ e. subst (λ (y : ℕ). Remains (s .cl y) (put a c j (s .cl) y)) (sym e) (rw (put-at a c j (s .cl)) (u .number, i)))
+      (λ e. subst (λ (y : ℕ). Remains (s .cl y) (putₛ a c j (s .cl) y)) (sym e) (rw (put-at a c j (s .cl)) (u .number, i)))
       (other a c j tame)
-  remains (ends {q = q} {x = x} a d e n) p f = other a closed (clearBoth a) (tame-both a) (λ i. n (subst (λ (y : ℕ). fateBy y q x ≡ StillOpen) i f))
+  remains (ends {q = q} {x = x} a d e n) p f = other a closedₛ (clearBoth a) (tame-both a) (λ i. n (subst (λ (y : ℕ). fateBy y q x ≡ StillOpen) i f))

@@ -11,13 +11,13 @@ use mathlib.Core.Option.{Option, none, some, IsSome, Option·some-injective}
 use native.Mathlib.Decide.{ℕ-discrete, decLe, decLt}
 use native.Mathlib.Omega.{arith}
 use Rattle.history.proofs.Lists.{in-case, none-some, option-case}
-use Rattle.history.proofs.Tickets.{Queue, low, exclusive}
-use Rattle.history.proofs.Model.{newcomer, DRow, Client, State, find, writesOf, rphase, cphase, rph, cph, put, same, closed, clearBoth, atStage, out, checked, committed, begun, lookup, committedAt, figured, free, without, leave, removed, withData, trimmed, smallest, checkKey, snapshots, lesser, default, low as lowOf}
-use Rattle.history.proofs.Plain.{restaged, onProgress, opening, rewritten, Entry, PClient, Plain, NoClash, setP, plain, onBegin, onWrite, onAbandon, onAdvance, onStage, made, ended, none-yet, Shares}
-use Rattle.history.proofs.Invariant.{Seen, view, lateness, Tab, One, Rel, Always, Inv}
+use Rattle.history.proofs.Tickets.{TicketQueue, low, exclusive}
+use Rattle.history.proofs.Model.{newcomer, DRow, Client, State, findₛ, writesOf, rphase, cphase, rph, cph, putₛ, same, closedₛ, clearBoth, atStageₛ, out, checkedₛ, committed, begunₛ, lookup, committedAt, figured, freeₛ, without, leave, removedₛ, withData, trimmedₛ, smallestₛ, checkKey, snapshots, lesserₛ, default, lowₛ as lowOf}
+use Rattle.history.proofs.Plain.{restaged, onProgressₚ, opening, rewritten, Entry, PClient, Plain, NoClashₚ, setP, updateₚ, onBeginₚ, onWriteₚ, onAbandonₚ, onAdvanceₚ, onStageₚ, onCommitₚ, onCloseₚ, none-yet, Sharesₚ}
+use Rattle.history.proofs.Invariant.{Reader, readerOf, lateness, Tab, OneClient, Rel, Always, Inv}
 use Rattle.history.proofs.Moves.{put-at, put-off, setP-at, setP-off, each, Tame, tame-same, tame-both, others-R, others-C, moves, seenOf, seen-off, seen-at, one-off}
-use Rattle.history.proofs.Entries.{is-some, find-row, row-find, none-found, find-without, without-none, Written, newer-cons}
-use Rattle.history.proofs.Took.{HasRow}
+use Rattle.history.proofs.Booked.{is-some, find-row, row-find, none-found, find-without, without-none, Written, newerₚ-cons}
+use Rattle.history.proofs.Transition.{HasRow}
 use Rattle.history.proofs.Tables.{tab-done, tab-removed, tab-begun, tab-written, tab-committed, tab-trimmed, trimDat, was}
 use Rattle.history.proofs.Lookups.{read-right, check-none, check-least, trim-count}
 use Rattle.history.proofs.Arms.{Good, cph-in, onStage-moved, R-past, C-low, C-own, late-step}
@@ -32,13 +32,13 @@ use Rattle.spec.specs.Calls.{cells}
 module _ {bounds : Bounds} {s : State} {p : Plain} (inv : Inv bounds s p) (a : ℕ) where
   -- Client a ends outside both queues, and the rows of the others are no more than they were.
   module _ (c : Client) (f : Client → Client) (tame : Tame a f) (h : c .stage ≡ 0) where
-    R-out : (dat′ : List DRow) → ((b : ℕ) → b ≢ a → 1 ≤ s .cl b .number → (x : ℕ) → IsSome (find (s .cl b .number) x dat′) → IsSome (find (s .cl b .number) x (s .dat)))
-        → Queue (λ b. rphase (put a c f (s .cl) b .stage)) (λ b. put a c f (s .cl) b .request) (λ b. put a c f (s .cl) b .rwait) (s .R) (Rel dat′ (put a c f (s .cl)))
+    R-out : (dat′ : List DRow) → ((b : ℕ) → b ≢ a → 1 ≤ s .cl b .number → (x : ℕ) → IsSome (findₛ (s .cl b .number) x dat′) → IsSome (findₛ (s .cl b .number) x (s .dat)))
+        → TicketQueue (λ b. rphase (putₛ a c f (s .cl) b .stage)) (λ b. putₛ a c f (s .cl) b .request) (λ b. putₛ a c f (s .cl) b .rwait) (s .R) (Rel dat′ (putₛ a c f (s .cl)))
     unfolding rphase
     R-out dat′ sub =
         low a (inv .rq)
         (others-R a c f tame (s .cl) (s .dat) dat′ (omega arith)
-        (each a (λ b. 2 ≤ rphase (put a c f (s .cl) b .stage) → (x : ℕ) → IsSome (find (put a c f (s .cl) b .number) x dat′) → IsSome (find (s .cl b .number) x (s .dat)))
+        (each a (λ b. 2 ≤ rphase (putₛ a c f (s .cl) b .stage) → (x : ℕ) → IsSome (findₛ (putₛ a c f (s .cl) b .number) x dat′) → IsSome (findₛ (s .cl b .number) x (s .dat)))
         (λ k. absurd (omega (arith, ap (λ (d : Client). d .stage) (put-at a c f (s .cl)))))
         (λ b m. rw (put-off a c f (s .cl) b m, tame .stage (s .cl b), tame .number (s .cl b)) (λ k. sub b m (opened b k)))))
         (rw (put-at a c f (s .cl)) (omega arith))
@@ -46,18 +46,18 @@ module _ {bounds : Bounds} {s : State} {p : Plain} (inv : Inv bounds s p) (a : �
         opened : (b : ℕ) → 2 ≤ min (s .cl b .stage) 5 → 1 ≤ s .cl b .number
         opened b k = by-cases (ℕ-discrete (s .cl b .number) 0) (λ e. absurd (omega (arith, inv .one b .idle e))) (λ n. omega arith)
 
-    C-out : Queue (λ b. cphase (put a c f (s .cl) b .stage)) (λ b. put a c f (s .cl) b .commit) (λ b. put a c f (s .cl) b .cwait) (s .C) Always
+    C-out : TicketQueue (λ b. cphase (putₛ a c f (s .cl) b .stage)) (λ b. putₛ a c f (s .cl) b .commit) (λ b. putₛ a c f (s .cl) b .cwait) (s .C) Always
     C-out = low a (inv .cq) (others-C a c f tame (s .cl) (omega arith)) (rw (put-at a c f (s .cl), h) (omega (arith, cph-in 0 (omega arith))))
 
-  pub begin-good : a < clients → s .cl a .number ≡ 0 → Good bounds s p (Begin a) (begun s a)
-  unfolding begun plain onBegin lateness
+  pub begin-good : a < clients → s .cl a .number ≡ 0 → Good bounds s p (Begin a) (begunₛ s a)
+  unfolding begunₛ updateₚ onBeginₚ lateness
   begin-good h was = (
     (inv .one a .dead was, sym (inv .tab .book-last), refl),
     record {
       same-bounds = inv .same-bounds;
       counted = inv .counted;
       last-le = inv .last-le;
-      one = each a (λ b. One (s .last) (p .book) b (put a c same (s .cl) b .number) (put a c same (s .cl) b .stage) (put a c same (s .cl) b .commit) (setP a q (p .cl) b))
+      one = each a (λ b. OneClient (s .last) (p .book) b (putₛ a c same (s .cl) b .number) (putₛ a c same (s .cl) b .stage) (putₛ a c same (s .cl) b .commit) (setP a q (p .cl) b))
           (rw (put-at a c same (s .cl), setP-at a q (p .cl)) record {
             on-stage = refl;
             live = λ _. refl;
@@ -83,15 +83,15 @@ module _ {bounds : Bounds} {s : State} {p : Plain} (inv : Inv bounds s p) (a : �
       q = opening p
 
   -- Client a is closed.
-  leaves : (dat′ : List DRow) → ((b : ℕ) → b ≢ a → 1 ≤ s .cl b .number → (x : ℕ) → IsSome (find (s .cl b .number) x dat′) → IsSome (find (s .cl b .number) x (s .dat)))
-      → Tab dat′ (s .comm) (s .last) (s .W) (p .table) (p .book) (view (leave s a dat′) (ended p a)) → Inv bounds (leave s a dat′) (ended p a)
-  unfolding closed none-yet
+  leaves : (dat′ : List DRow) → ((b : ℕ) → b ≢ a → 1 ≤ s .cl b .number → (x : ℕ) → IsSome (findₛ (s .cl b .number) x dat′) → IsSome (findₛ (s .cl b .number) x (s .dat)))
+      → Tab dat′ (s .comm) (s .last) (s .W) (p .table) (p .book) (readerOf (leave s a dat′) (onCloseₚ p a)) → Inv bounds (leave s a dat′) (onCloseₚ p a)
+  unfolding closedₛ none-yet
   leaves dat′ sub tab = record {
     same-bounds = inv .same-bounds;
     counted = inv .counted;
     last-le = inv .last-le;
-    one = each a (λ b. One (s .last) (p .book) b (put a closed (clearBoth a) (s .cl) b .number) (put a closed (clearBoth a) (s .cl) b .stage) (put a closed (clearBoth a) (s .cl) b .commit) (setP a none-yet (p .cl) b))
-        (rw (put-at a closed (clearBoth a) (s .cl), setP-at a none-yet (p .cl)) record {
+    one = each a (λ b. OneClient (s .last) (p .book) b (putₛ a closedₛ (clearBoth a) (s .cl) b .number) (putₛ a closedₛ (clearBoth a) (s .cl) b .stage) (putₛ a closedₛ (clearBoth a) (s .cl) b .commit) (setP a none-yet (p .cl) b))
+        (rw (put-at a closedₛ (clearBoth a) (s .cl), setP-at a none-yet (p .cl)) record {
           on-stage = refl;
           live = λ k. absurd (omega arith);
           dead = λ _. refl;
@@ -102,32 +102,32 @@ module _ {bounds : Bounds} {s : State} {p : Plain} (inv : Inv bounds s p) (a : �
           in-book = λ k. absurd (omega arith);
           fresh = λ k. absurd (omega arith);
         })
-        (λ b m. one-off a closed (clearBoth a) (tame-both a) (s .cl) none-yet (p .cl) (s .last) (p .book) b m (inv .one b));
-    rq = R-out closed (clearBoth a) (tame-both a) refl dat′ sub;
-    cq = C-out closed (clearBoth a) (tame-both a) refl;
+        (λ b m. one-off a closedₛ (clearBoth a) (tame-both a) (s .cl) none-yet (p .cl) (s .last) (p .book) b m (inv .one b));
+    rq = R-out closedₛ (clearBoth a) (tame-both a) refl dat′ sub;
+    cq = C-out closedₛ (clearBoth a) (tame-both a) refl;
     tab = tab;
   }
 
-  closed-view : (b : ℕ) → b ≢ a → view (leave s a (s .dat)) (ended p a) b ≡ view s p b
-  closed-view = seen-off a closed (clearBoth a) (tame-both a) (s .cl) none-yet (p .cl)
+  closed-view : (b : ℕ) → b ≢ a → readerOf (leave s a (s .dat)) (onCloseₚ p a) b ≡ readerOf s p b
+  closed-view = seen-off a closedₛ (clearBoth a) (tame-both a) (s .cl) none-yet (p .cl)
 
-  closed-num : view (leave s a (s .dat)) (ended p a) a .num ≡ 0
-  unfolding closed
-  closed-num = ap (λ (z : Seen). z .num) (seen-at a closed (clearBoth a) (s .cl) none-yet (p .cl))
+  closed-num : readerOf (leave s a (s .dat)) (onCloseₚ p a) a .num ≡ 0
+  unfolding closedₛ
+  closed-num = ap (λ (z : Reader). z .num) (seen-at a closedₛ (clearBoth a) (s .cl) none-yet (p .cl))
 
-  leaves-removed : 1 ≤ s .cl a .number → s .cl a .stage ≤ 11 → Inv bounds (removed s a) (ended p a)
+  leaves-removed : 1 ≤ s .cl a .number → s .cl a .stage ≤ 11 → Inv bounds (removedₛ s a) (onCloseₚ p a)
   unfolding lateness
   leaves-removed isopen h =
       leaves (without (s .cl a .number) (s .dat))
       (λ b m k x i. rw (find-without (s .cl a .number) (s .cl b .number) x (s .dat) (inv .tab .apart b a m k)) at i)
       (tab-removed (inv .tab) a closed-view closed-num isopen (omega arith))
 
-  pub abandon-good : 1 ≤ s .cl a .number → s .cl a .stage < 12 → Good bounds s p (Abandon a) (figured (removed s a))
-  unfolding plain onAbandon
+  pub abandon-good : 1 ≤ s .cl a .number → s .cl a .stage < 12 → Good bounds s p (Abandon a) (figured (removedₛ s a))
+  unfolding updateₚ onAbandonₚ
   abandon-good isopen h = ((inv .one a .live isopen, omega (arith, inv .one a .on-stage)), leaves-removed isopen (omega arith))
 
   pub arm13 : 1 ≤ s .cl a .number → s .cl a .stage ≡ 13 → Good bounds s p (Advance a) (out (leave s a (s .dat)) (Answered (Done (s .cl a .commit))))
-  unfolding plain onAdvance onProgress lateness
+  unfolding updateₚ onAdvanceₚ onProgressₚ lateness
   arm13 isopen e = (
     (inv .one a .live isopen, inl (inv .one a .on-stage ∙ e, sym (inv .one a .numbered (omega arith)), inv .one a .in-book (omega arith))),
     leaves (s .dat) (λ b m k x i. i) (tab-done (inv .tab) a closed-view closed-num (omega arith)),
@@ -135,7 +135,7 @@ module _ {bounds : Bounds} {s : State} {p : Plain} (inv : Inv bounds s p) (a : �
 
   -- Client a ends with nothing written: it has no row to remove.
   pub arm0-ends : 1 ≤ s .cl a .number → s .cl a .stage ≡ 0 → (HasRow (s .cl a .number) (s .dat) → ⊥) → Good bounds s p (Advance a) (out (leave s a (s .dat)) (Answered (Done (s .cl a .snapshot))))
-  unfolding plain onAdvance onProgress lateness
+  unfolding updateₚ onAdvanceₚ onProgressₚ lateness
   arm0-ends isopen e n = (
     (
       inv .one a .live isopen,
@@ -146,19 +146,19 @@ module _ {bounds : Bounds} {s : State} {p : Plain} (inv : Inv bounds s p) (a : �
         sym (inv .tab .mine a isopen .began),
       ),
     ),
-    subst (λ (d : List DRow). Inv bounds (leave s a d) (ended p a)) (without-none (s .cl a .number) (s .dat) n) (leaves-removed isopen (omega arith)),
+    subst (λ (d : List DRow). Inv bounds (leave s a d) (onCloseₚ p a)) (without-none (s .cl a .number) (s .dat) n) (leaves-removed isopen (omega arith)),
   )
 
   module _ (isopen : 1 ≤ s .cl a .number) (e : s .cl a .stage ≡ 5) where
-    passes : NoClash p a → Good bounds s p (Advance a) (checked s a none)
-    unfolding checked plain onAdvance onProgress
+    passes : NoClashₚ p a → Good bounds s p (Advance a) (checkedₛ s a none)
+    unfolding checkedₛ updateₚ onAdvanceₚ onProgressₚ
     passes h = (
       (inv .one a .live isopen, (omega (arith, inv .one a .on-stage), λ k. absurd (omega arith), λ _. h, λ k. absurd (omega arith))),
       rw (onStage-moved p a 6 (omega arith) (omega arith))
-          (moves inv a (atStage (s .cl a) 6) same (tame-same a) (s .R) (s .C) (p .count) (p .cl a .commit) (inv .counted) (setP a (restaged (p .cl a) 6 (p .cl a .commit)) (p .cl))
+          (moves inv a (atStageₛ (s .cl a) 6) same (tame-same a) (s .R) (s .C) (p .count) (p .cl a .commit) (inv .counted) (setP a (restaged (p .cl a) 6 (p .cl a .commit)) (p .cl))
           (setP-at a _ (p .cl)) (setP-off a _ (p .cl)) refl refl (late-step (s .cl a .stage) 6 (omega arith) (omega arith)) isopen (omega arith)
-          (R-past inv a isopen (atStage (s .cl a) 6) same (tame-same a) (λ d. refl) refl (s .C) (omega arith) (omega arith) (omega arith) refl refl)
-          (C-low inv a isopen (atStage (s .cl a) 6) same (tame-same a) refl (s .R) (s .C) (omega arith) (omega arith) (omega (arith, cph-in 6 (omega arith))))
+          (R-past inv a isopen (atStageₛ (s .cl a) 6) same (tame-same a) (λ d. refl) refl (s .C) (omega arith) (omega arith) (omega arith) refl refl)
+          (C-low inv a isopen (atStageₛ (s .cl a) 6) same (tame-same a) refl (s .R) (s .C) (omega arith) (omega arith) (omega (arith, cph-in 6 (omega arith))))
           (λ k. absurd (omega arith))
           (λ k. absurd (omega arith))
           (λ k. absurd (omega arith))
@@ -169,10 +169,10 @@ module _ {bounds : Bounds} {s : State} {p : Plain} (inv : Inv bounds s p) (a : �
     unfolding lateness
     early = omega arith
 
-    pub arm5 : Good bounds s p (Advance a) (checked s a (smallest (checkKey (s .dat) (s .comm) (s .cl a .number) (s .cl a .snapshot)) (s .dat)))
-    unfolding checked plain onAdvance onProgress
+    pub arm5 : Good bounds s p (Advance a) (checkedₛ s a (smallestₛ (checkKey (s .dat) (s .comm) (s .cl a .number) (s .cl a .snapshot)) (s .dat)))
+    unfolding checkedₛ updateₚ onAdvanceₚ onProgressₚ
     arm5 =
-        option-case (smallest (checkKey (s .dat) (s .comm) (s .cl a .number) (s .cl a .snapshot)) (s .dat))
+        option-case (smallestₛ (checkKey (s .dat) (s .comm) (s .cl a .number) (s .cl a .snapshot)) (s .dat))
         (λ q. rw q (passes (check-none (inv .tab) a isopen early q)))
         (λ w q. rw q (let h = check-least (inv .tab) a isopen early w q in
         ((inv .one a .live isopen, (inv .one a .on-stage ∙ e, h .0, h .1)), leaves-removed isopen (omega arith))))
@@ -182,8 +182,8 @@ module _ {bounds : Bounds} {s : State} {p : Plain} (inv : Inv bounds s p) (a : �
     opened : (b : ℕ) → 1 ≤ s .cl b .stage → 1 ≤ s .cl b .number
     opened b k = by-cases (ℕ-discrete (s .cl b .number) 0) (λ e. absurd (omega (arith, inv .one b .idle e))) (λ n. omega arith)
 
-    onStage-made : onStage p a 12 ≡ made p a
-    unfolding onStage
+    onStage-made : onStageₚ p a 12 ≡ onCommitₚ p a
+    unfolding onStageₚ
     onStage-made = if-neg (ℕ-discrete 12 8) (omega arith) _ _ ∙ if-pos (ℕ-discrete 12 12) refl _ _
 
     five : cph s a ≡ 5
@@ -198,16 +198,16 @@ module _ {bounds : Bounds} {s : State} {p : Plain} (inv : Inv bounds s p) (a : �
         by-cases (decLt (s .cl b .commit) (s .cl a .commit)) (λ l. absurd (inv .cq .passed b a m k (omega arith) tt l)) (λ l. omega arith)
 
     -- No other past its wait wrote a cell that this one wrote.
-    no-share : (b : ℕ) → b ≢ a → 6 ≤ s .cl b .stage → s .cl b .stage ≤ 11 → Shares (p .cl a .writes) (p .cl b .writes) → ⊥
+    no-share : (b : ℕ) → b ≢ a → 6 ≤ s .cl b .stage → s .cl b .stage ≤ 11 → Sharesₚ (p .cl a .writes) (p .cl b .writes) → ⊥
     unfolding rphase lateness
     no-share b m h h′ w =
         let ob = opened b (omega arith) in
-        let x : IsSome (find (s .cl a .number) (w .0) (s .dat)) = rw (inv .tab .mine a isopen .held (omega arith) (w .0)) (w .1) in
-        let y : IsSome (find (s .cl b .number) (w .0) (s .dat)) = rw (inv .tab .mine b ob .held (omega arith) (w .0)) (w .2) in
+        let x : IsSome (findₛ (s .cl a .number) (w .0) (s .dat)) = rw (inv .tab .mine a isopen .held (omega arith) (w .0)) (w .1) in
+        let y : IsSome (findₛ (s .cl b .number) (w .0) (s .dat)) = rw (inv .tab .mine b ob .held (omega arith) (w .0)) (w .2) in
         exclusive (inv .rq) a b (λ z. m (sym z)) (omega arith) (omega arith) (w .0, x, y) (w .0, y, x)
 
     pub arm11 : Good bounds s p (Advance a) (committed s a)
-    unfolding committed plain onAdvance onProgress lateness
+    unfolding committed updateₚ onAdvanceₚ onProgressₚ lateness
     arm11 = (
       (
         inv .one a .live isopen,
@@ -225,7 +225,7 @@ module _ {bounds : Bounds} {s : State} {p : Plain} (inv : Inv bounds s p) (a : �
         same-bounds = inv .same-bounds;
         counted = inv .counted;
         last-le = inv .cq .bound a (omega (arith, five));
-        one = each a (λ b. One (s .cl a .commit) (entry ∷ p .book) b (put a c same (s .cl) b .number) (put a c same (s .cl) b .stage) (put a c same (s .cl) b .commit) (setP a q (p .cl) b))
+        one = each a (λ b. OneClient (s .cl a .commit) (entry ∷ p .book) b (putₛ a c same (s .cl) b .number) (putₛ a c same (s .cl) b .stage) (putₛ a c same (s .cl) b .commit) (setP a q (p .cl) b))
             (rw (put-at a c same (s .cl), setP-at a q (p .cl)) record {
               on-stage = refl;
               live = inv .one a .live;
@@ -250,13 +250,13 @@ module _ {bounds : Bounds} {s : State} {p : Plain} (inv : Inv bounds s p) (a : �
         entry = record { number = s .cl a .commit; puts = p .cl a .writes }
 
         c : Client
-        c = atStage (s .cl a) 12
+        c = atStageₛ (s .cl a) 12
 
         q : PClient
         q = restaged (p .cl a) 12 (s .cl a .commit)
 
-        other : (b : ℕ) → b ≢ a → One (s .last) (p .book) b (s .cl b .number) (s .cl b .stage) (s .cl b .commit) (p .cl b)
-            → One (s .cl a .commit) (entry ∷ p .book) b (s .cl b .number) (s .cl b .stage) (s .cl b .commit) (p .cl b)
+        other : (b : ℕ) → b ≢ a → OneClient (s .last) (p .book) b (s .cl b .number) (s .cl b .stage) (s .cl b .commit) (p .cl b)
+            → OneClient (s .cl a .commit) (entry ∷ p .book) b (s .cl b .number) (s .cl b .stage) (s .cl b .commit) (p .cl b)
         other b m o = record {
           on-stage = o .on-stage;
           live = o .live;
@@ -266,8 +266,8 @@ module _ {bounds : Bounds} {s : State} {p : Plain} (inv : Inv bounds s p) (a : �
           numbered = o .numbered;
           ahead = first-one b m;
           in-book = λ k. let h = o .in-book k in (h .0, there (h .1), h .2);
-          fresh = λ k k′ d i w. in-case (rw (newer-cons (p .cl b .since) entry (p .book) (inv .tab .mine b (opened b (omega arith)) .since-le)) at i)
-              (λ z. no-share b m k k′ (subst (λ (y : Entry). Shares (y .puts) (p .cl b .writes)) z w))
+          fresh = λ k k′ d i w. in-case (rw (newerₚ-cons (p .cl b .since) entry (p .book) (inv .tab .mine b (opened b (omega arith)) .since-le)) at i)
+              (λ z. no-share b m k k′ (subst (λ (y : Entry). Sharesₚ (y .puts) (p .cl b .writes)) z w))
               (λ j. o .fresh k k′ d j w);
         }
 
@@ -279,7 +279,7 @@ module _ {bounds : Bounds} {s : State} {p : Plain} (inv : Inv bounds s p) (a : �
         rw (inv .tab .mine a isopen .held (omega arith) x, read-right (inv .tab) a isopen x, inv .tab .mine a isopen .copied x)
 
     pub read-good : Good bounds s p (Read a x) (out s (Answered (lookup s a x)))
-    unfolding plain
+    unfolding updateₚ
     read-good = ((inv .one a .live isopen, shows, omega (arith, inv .one a .on-stage), below), inv)
 
   -- What client a wrote by its rows is, at stage 0, what it wrote by the plain table.
@@ -295,25 +295,25 @@ module _ {bounds : Bounds} {s : State} {p : Plain} (inv : Inv bounds s p) (a : �
       (subst (λ (g : ℕ). F (bounds .limit) g (writesOf s a)) (sym (inv .one a .on-stage))
       (subst (λ (b : Bounds). F (b .limit) (s .cl a .stage) (writesOf s a)) (inv .same-bounds) h))
 
-  pub write-refused : (x : ℕ) (v : Value) (r : ℕ) → 1 ≤ s .cl a .number → WriteRefusal (s .bounds .limit) (s .cl a .stage) (writesOf s a) x v (Answered (free s)) r
-      → WriteRefusal (bounds .limit) (p .cl a .stage) (p .cl a .writes) x v (Answered (free s)) r
+  pub write-refused : (x : ℕ) (v : Value) (r : ℕ) → 1 ≤ s .cl a .number → WriteRefusal (s .bounds .limit) (s .cl a .stage) (writesOf s a) x v (Answered (freeₛ s)) r
+      → WriteRefusal (bounds .limit) (p .cl a .stage) (p .cl a .writes) x v (Answered (freeₛ s)) r
   write-refused x v r isopen (for-cell h) = for-cell h
   write-refused x v r isopen (for-length h l) = for-length h l
   write-refused x v r isopen (for-stage h l e) = for-stage h l (omega (arith, inv .one a .on-stage))
-  write-refused x v r isopen (for-limit h n m) = by-table (λ b g w. WriteRefusal b g w x v (Answered (free s)) cellLimit) isopen (h .stage) (for-limit h n m)
-  write-refused x v r isopen (for-rows h n m f) = by-table (λ b g w. WriteRefusal b g w x v (Answered (free s)) noFreeRow) isopen (h .stage) (for-rows h n m f)
+  write-refused x v r isopen (for-limit h n m) = by-table (λ b g w. WriteRefusal b g w x v (Answered (freeₛ s)) cellLimit) isopen (h .stage) (for-limit h n m)
+  write-refused x v r isopen (for-rows h n m f) = by-table (λ b g w. WriteRefusal b g w x v (Answered (freeₛ s)) noFreeRow) isopen (h .stage) (for-rows h n m f)
 
   -- A write.
   module _ (x : ℕ) (v : Value) (fits : WriteAllowed (s .bounds .limit) (s .cl a .stage) (writesOf s a) x v) (isopen : 1 ≤ s .cl a .number) where
     pub write-good : (dat′ : List DRow) → Written (s .cl a .number) x v (s .dat) dat′ → Good bounds s p (Write a x v) (figured (withData s dat′ (s .cl)))
-    unfolding plain onWrite rphase lateness
+    unfolding updateₚ onWriteₚ rphase lateness
     write-good dat′ w = (
       (inv .one a .live isopen, by-table (λ b g w. WriteAllowed b g w x v) isopen (fits .may .stage) fits),
       record {
         same-bounds = inv .same-bounds;
         counted = inv .counted;
         last-le = inv .last-le;
-        one = each a (λ b. One (s .last) (p .book) b (s .cl b .number) (s .cl b .stage) (s .cl b .commit) (setP a q (p .cl) b))
+        one = each a (λ b. OneClient (s .last) (p .book) b (s .cl b .number) (s .cl b .stage) (s .cl b .commit) (setP a q (p .cl) b))
             (rw (setP-at a q (p .cl)) record {
               on-stage = inv .one a .on-stage;
               live = inv .one a .live;
@@ -345,20 +345,20 @@ module _ {bounds : Bounds} {s : State} {p : Plain} (inv : Inv bounds s p) (a : �
         q : PClient
         q = rewritten (p .cl a) x v
 
-        others : (b : ℕ) → 2 ≤ min (s .cl b .stage) 5 → (y : ℕ) → IsSome (find (s .cl b .number) y dat′) → IsSome (find (s .cl b .number) y (s .dat))
+        others : (b : ℕ) → 2 ≤ min (s .cl b .stage) 5 → (y : ℕ) → IsSome (findₛ (s .cl b .number) y dat′) → IsSome (findₛ (s .cl b .number) y (s .dat))
         others b h y i =
             let m : b ≢ a = λ z. omega (arith, ap (λ (k : ℕ). s .cl k .stage) z) in
             let o : 1 ≤ s .cl b .number = by-cases (ℕ-discrete (s .cl b .number) 0) (λ z. absurd (omega (arith, inv .one b .idle z))) (λ n. omega arith) in
             rw (w .tags (s .cl b .number) y (inv .tab .apart b a m o)) at i
 
 -- The snapshots of the open clients.
-lesser-le : (n : ℕ) (o : Option ℕ) → (m : ℕ) × (lesser n o ≡ some m) × (m ≤ n) × ((k : ℕ) → o ≡ some k → m ≤ k)
-unfolding lesser
+lesser-le : (n : ℕ) (o : Option ℕ) → (m : ℕ) × (lesserₛ n o ≡ some m) × (m ≤ n) × ((k : ℕ) → o ≡ some k → m ≤ k)
+unfolding lesserₛ
 lesser-le n none = (n, refl, omega arith, λ k e. absurd (none-some refl e))
 lesser-le n (some j) = (min n j, refl, omega arith, λ k e. omega (arith, Option·some-injective j k e))
 
 snapshots-le : (n : ℕ) (cl : ℕ → Client) (a : ℕ) → a < n → 1 ≤ cl a .number → (m : ℕ) × (snapshots n cl ≡ some m) × (m ≤ cl a .snapshot)
-unfolding snapshots lesser
+unfolding snapshots lesserₛ
 snapshots-le zero cl a h k = absurd (omega arith)
 snapshots-le (suc n) cl a h k =
     by-cases (ℕ-discrete a n)
@@ -371,7 +371,7 @@ snapshots-le (suc n) cl a h k =
     (λ p. (q .0, if-neg (decLe 1 (cl n .number)) p _ _ ∙ q .1, q .2)))
 
 snapshots-bound : (n : ℕ) (cl : ℕ → Client) (K : ℕ) → ((a : ℕ) → 1 ≤ cl a .number → cl a .snapshot ≤ K) → (m : ℕ) → snapshots n cl ≡ some m → m ≤ K
-unfolding snapshots lesser
+unfolding snapshots lesserₛ
 snapshots-bound zero cl K h m e = absurd (none-some refl e)
 snapshots-bound (suc n) cl K h m e =
     by-cases (decLe 1 (cl n .number))
@@ -403,9 +403,9 @@ module _ {bounds : Bounds} {s : State} {p : Plain} (inv : Inv bounds s p) where
   all-closed h a = by-cases (ℕ-discrete (s .cl a .number) 0) (λ e. e) (λ n. absurd (true≢false (sym (inv .one a .live (omega arith)) ∙ h a)))
 
   -- The rows that a trim leaves to a tag.
-  sub-find : (u x : ℕ) → IsSome (find u x (trimDat (s .dat) (s .comm) (lowOf s))) → IsSome (find u x (s .dat))
+  sub-find : (u x : ℕ) → IsSome (findₛ u x (trimDat (s .dat) (s .comm) (lowOf s))) → IsSome (findₛ u x (s .dat))
   sub-find u x h =
-      let w = is-some (find u x (trimDat (s .dat) (s .comm) (lowOf s))) h in
+      let w = is-some (findₛ u x (trimDat (s .dat) (s .comm) (lowOf s))) h in
       let r = find-row u x (trimDat (s .dat) (s .comm) (lowOf s)) (w .0) (w .1) in
       row-find u x (s .dat) (r .0) (was (inv .tab) (lowOf s) low-last low-snap (r .0) (r .1) .0) (r .2) (r .3)
 
@@ -413,8 +413,8 @@ module _ {bounds : Bounds} {s : State} {p : Plain} (inv : Inv bounds s p) where
   unfolding rphase
   nobody = by-cases (ℕ-discrete (s .cl clients .number) 0) (λ e. omega (arith, inv .one clients .idle e)) (λ n. absurd (omega (arith, inv .one clients .below (omega arith))))
 
-  pub trim-good : Good bounds s p Trim (trimmed s)
-  unfolding trimmed plain free
+  pub trim-good : Good bounds s p Trim (trimmedₛ s)
+  unfolding trimmedₛ updateₚ freeₛ
   trim-good = (
     λ h. rw (low-none (all-closed h), trim-count (inv .tab) (all-closed h), inv .same-bounds),
     record {

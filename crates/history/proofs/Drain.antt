@@ -17,17 +17,17 @@ use Rattle.history.proofs.Sums.{sum, sum-has, sum-less, sum-ones, one, 
 use Rattle.history.proofs.View.{view}
 use Rattle.history.proofs.AllCalls.{told-by}
 use Rattle.history.specs.Rounds.{serves}
-use Rattle.history.proofs.Effects.{Side, phaseOf, numberOf, listOf, Tick}
+use Rattle.history.proofs.Effects.{Side, phaseOf, numberOn, listOf, Tick}
 use Rattle.history.proofs.Grown.{next, client, Grown, is-below}
-use Rattle.history.proofs.AfterRounds.{After, Stable, Hit, stays, andThen, so, later, every, both, one-round}
+use Rattle.history.proofs.AfterRounds.{Following, Stable, Hit, stays, andThen, so, later, every, both, one-round}
 
 -- ---- a queue of the store
 
 abbrev pub phase : Side → Image → ℕ → ℕ
 phase q s b = phaseOf q (view s .cl) b
 
-abbrev pub number : Side → Image → ℕ → ℕ
-number q s b = numberOf q (view s .cl) b
+abbrev pub ticket : Side → Image → ℕ → ℕ
+ticket q s b = numberOn q (view s .cl) b
 
 abbrev pub list : Side → Image → ℕ → ℕ → Bool
 list q s b = listOf q (view s .cl) b
@@ -37,41 +37,41 @@ counter q s = q .counter (view s)
 
 pub record Line (n : ℕ) (q : Side) : Type 0 where
   pub tick : (s : Image) (c : Call) → Grown n s → Tick q (view s .cl) (counter q s) (view (next s c) .cl) (counter q (next s c))
-  pub bound : (s : Image) → Grown n s → (b : ℕ) → 2 ≤ phase q s b → number q s b ≤ counter q s
-  pub apart : (s : Image) → Grown n s → (a b : ℕ) → a ≢ b → 2 ≤ phase q s a → 2 ≤ phase q s b → number q s a ≢ number q s b
+  pub bound : (s : Image) → Grown n s → (b : ℕ) → 2 ≤ phase q s b → ticket q s b ≤ counter q s
+  pub apart : (s : Image) → Grown n s → (a b : ℕ) → a ≢ b → 2 ≤ phase q s a → 2 ≤ phase q s b → ticket q s a ≢ ticket q s b
   pub within : (s : Image) → Grown n s → (b : ℕ) → 1 ≤ phase q s b → 1 ≤ client s b .stage
   pub listed : (s : Image) → Grown n s → (b x : ℕ) → 4 ≤ phase q s b → list q s b x ≡ true → (1 ≤ phase q s x) × (x ≢ b)
   -- the call that serves a client in the queue: up to its list nobody waits, and it passes where all on its list have noted larger numbers
   pub rises : (s : Image) (c : Call) → Grown n s → (b : ℕ) → serves b c (told-by c s) ≡ true → 1 ≤ phase q s b → phase q s b ≤ 3
       → (phase q s b < phase q (next s c) b) ⊎ (phase q (next s c) b ≡ 0)
   pub passes : (s : Image) (c : Call) → Grown n s → (b : ℕ) → serves b c (told-by c s) ≡ true → phase q s b ≡ 4
-      → ((x : ℕ) → list q s b x ≡ true → (3 ≤ phase q s x) × (number q s b < number q s x))
+      → ((x : ℕ) → list q s b x ≡ true → (3 ≤ phase q s x) × (ticket q s b < ticket q s x))
       → (5 ≤ phase q (next s c) b) ⊎ (phase q (next s c) b ≡ 0)
 
 -- ---- claims on number m, which was taken, and on client b, if it holds that number still
 
-abbrev pub Holds : Side → ℕ → ℕ → Image → Type 0
-Holds q b m s = (2 ≤ phase q s b) × (number q s b ≡ m)
+abbrev pub HasNumber : Side → ℕ → ℕ → Image → Type 0
+HasNumber q b m s = (2 ≤ phase q s b) × (ticket q s b ≡ m)
 
 -- b has come as far as phase k
 abbrev pub Far : Side → ℕ → ℕ → ℕ → Image → Type 0
-Far q b m k s = (m ≤ counter q s) × (Holds q b m s → k ≤ phase q s b)
+Far q b m k s = (m ≤ counter q s) × (HasNumber q b m s → k ≤ phase q s b)
 
 -- b holds it no more
 abbrev pub Gone : Side → ℕ → ℕ → Image → Type 0
-Gone q b m s = (m ≤ counter q s) × (Holds q b m s → ⊥)
+Gone q b m s = (m ≤ counter q s) × (HasNumber q b m s → ⊥)
 
 -- b has its list, and x, if it is on it, has come as far as phase i
-abbrev pub Seen : Side → ℕ → ℕ → ℕ → ℕ → Image → Type 0
-Seen q b m i x s = (m ≤ counter q s) × (Holds q b m s → (4 ≤ phase q s b) × (list q s b x ≡ true → i ≤ phase q s x))
+abbrev pub Follows : Side → ℕ → ℕ → ℕ → ℕ → Image → Type 0
+Follows q b m i x s = (m ≤ counter q s) × (HasNumber q b m s → (4 ≤ phase q s b) × (list q s b x ≡ true → i ≤ phase q s x))
 
 -- no smaller number is in the queue
 abbrev pub Least : Side → ℕ → Image → Type 0
-Least q m s = (m ≤ counter q s) × ((x : ℕ) → 2 ≤ phase q s x → m ≤ number q s x)
+Least q m s = (m ≤ counter q s) × ((x : ℕ) → 2 ≤ phase q s x → m ≤ ticket q s x)
 
 -- how many smaller numbers are in the queue
-pub ahead? : (q : Side) (s : Image) (m b : ℕ) → Dec ((2 ≤ phase q s b) × (number q s b < m))
-ahead? q s m b = Dec·and (decLe 2 (phase q s b)) (decLt (number q s b) m)
+pub ahead? : (q : Side) (s : Image) (m b : ℕ) → Dec ((2 ≤ phase q s b) × (ticket q s b < m))
+ahead? q s m b = Dec·and (decLe 2 (phase q s b)) (decLt (ticket q s b) m)
 
 abbrev pub ahead : ℕ → Side → Image → ℕ → ℕ
 ahead n q s m = sum n (λ b. one (ahead? q s m b))
@@ -81,8 +81,8 @@ module _ {n : ℕ} {q : Side} (line : Line n q) where
   counts s c g = line .tick s c g .counter
 
   -- who holds a number after a call held it before, and is no less far
-  pub held : (s : Image) (c : Call) → Grown n s → (b m : ℕ) → m ≤ counter q s → Holds q b m (next s c)
-      → Holds q b m s × (phase q s b ≤ phase q (next s c) b)
+  pub held : (s : Image) (c : Call) → Grown n s → (b m : ℕ) → m ≤ counter q s → HasNumber q b m (next s c)
+      → HasNumber q b m s × (phase q s b ≤ phase q (next s c) b)
   held s c g b m l h = let t = line .tick s c g .back b (h .0) (omega arith) in ((t .0, sym (t .1) ∙ h .1), t .2)
 
   far-stable : (b m k : ℕ) → Stable n (Far q b m k)
@@ -92,7 +92,7 @@ module _ {n : ℕ} {q : Side} (line : Line n q) where
   pub gone-stable : (b m : ℕ) → Stable n (Gone q b m)
   gone-stable b m s c g o x = (omega (arith, counts s c g, x .0), λ h. x .1 (held s c g b m (x .0) h .0))
 
-  seen-stable : (b m i x : ℕ) → Stable n (Seen q b m i x)
+  seen-stable : (b m i x : ℕ) → Stable n (Follows q b m i x)
   seen-stable b m i x s c g o y = (
     omega (arith, counts s c g, y .0),
     λ h. let w = held s c g b m (y .0) h in let z = y .1 (w .0) in
@@ -101,15 +101,15 @@ module _ {n : ℕ} {q : Side} (line : Line n q) where
 
   least-stable : (m : ℕ) → Stable n (Least q m)
   least-stable m s c g o x =
-      (omega (arith, counts s c g, x .0), λ y h. by-cases (decLe m (number q (next s c) y)) (λ k. k) (λ k. absurd (smaller y h k)))
+      (omega (arith, counts s c g, x .0), λ y h. by-cases (decLe m (ticket q (next s c) y)) (λ k. k) (λ k. absurd (smaller y h k)))
     where
-      smaller : (y : ℕ) → 2 ≤ phase q (next s c) y → (m ≤ number q (next s c) y → ⊥) → ⊥
+      smaller : (y : ℕ) → 2 ≤ phase q (next s c) y → (m ≤ ticket q (next s c) y → ⊥) → ⊥
       smaller y h k = let t = line .tick s c g .back y h (omega (arith, x .0)) in let z = x .1 y (t .0) in omega arith
 
   -- ---- four rounds to be ready
 
   -- phases 2 and 3 take a round each
-  far-up : (b m k : ℕ) → 2 ≤ k → k ≤ 3 → (s : Image) → Grown n s → Far q b m k s → After n 1 (Far q b m (suc k)) s
+  far-up : (b m k : ℕ) → 2 ≤ k → k ≤ 3 → (s : Image) → Grown n s → Far q b m k s → Following n 1 (Far q b m (suc k)) s
   far-up b m k l u s g x =
       by-cases (decLe 2 (phase q s b))
       (λ h. one-round b (far-stable b m k) (far-stable b m (suc k)) hit s g x (line .within s g b (omega arith)))
@@ -125,13 +125,13 @@ module _ {n : ℕ} {q : Side} (line : Line n q) where
       )
 
   -- a client on the list that has not noted its number is at phase 1 or 2, and these take a round each
-  seen-up : (b m i x : ℕ) → 1 ≤ i → i ≤ 2 → (s : Image) → Grown n s → Seen q b m i x s → After n 1 (Seen q b m (suc i) x) s
+  seen-up : (b m i x : ℕ) → 1 ≤ i → i ≤ 2 → (s : Image) → Grown n s → Follows q b m i x s → Following n 1 (Follows q b m (suc i) x) s
   seen-up b m i x l u s g y =
       by-cases (decLe 1 (phase q s x))
       (λ h. one-round x (seen-stable b m i x) (seen-stable b m (suc i) x) hit s g y (line .within s g x h))
       (λ h. stays (seen-stable b m (suc i) x) 1 s g (y .0, λ w. (y .1 w .0, λ e. absurd (h (let z = y .1 w .1 e in omega arith)))))
     where
-      hit : Hit n x (Seen q b m i x) (Seen q b m (suc i) x)
+      hit : Hit n x (Follows q b m i x) (Follows q b m (suc i) x)
       hit s c g o y d = (
         omega (arith, counts s c g, y .0),
         λ h. let w = held s c g b m (y .0) h in let z = y .1 (w .0) in (
@@ -143,7 +143,7 @@ module _ {n : ℕ} {q : Side} (line : Line n q) where
         ),
       )
 
-  ready : (b m : ℕ) (s : Image) → Grown n s → m ≤ counter q s → After n 4 (λ t. (x : ℕ) → Seen q b m 3 x t) s
+  ready : (b m : ℕ) (s : Image) → Grown n s → m ≤ counter q s → Following n 4 (λ t. (x : ℕ) → Follows q b m 3 x t) s
   ready b m s g l =
       andThen 2 2 4 refl s g
       (andThen 1 1 2 refl s g (far-up b m 2 (omega arith) (omega arith) s g (l, λ h. h .0)) (far-up b m 3 (omega arith) (omega arith)))
@@ -155,9 +155,9 @@ module _ {n : ℕ} {q : Side} (line : Line n q) where
   -- ---- one round to pass, with no smaller number about
 
   abbrev Passes : ℕ → ℕ → Image → Type 0
-  Passes b m s = ((x : ℕ) → Seen q b m 3 x s) × Least q m s
+  Passes b m s = ((x : ℕ) → Follows q b m 3 x s) × Least q m s
 
-  pass : (b m : ℕ) (s : Image) → Grown n s → Passes b m s → After n 1 (Far q b m 5) s
+  pass : (b m : ℕ) (s : Image) → Grown n s → Passes b m s → Following n 1 (Far q b m 5) s
   pass b m s g x =
       by-cases (decLe 2 (phase q s b))
       (λ h. one-round b stable (far-stable b m 5) hit s g x (line .within s g b (omega arith)))
@@ -166,8 +166,8 @@ module _ {n : ℕ} {q : Side} (line : Line n q) where
       stable : Stable n (Passes b m)
       stable s c g o y = (λ x. seen-stable b m 3 x s c g o (y .0 x), least-stable m s c g o (y .1))
 
-      larger : (s : Image) → Grown n s → Holds q b m s → Passes b m s → (x : ℕ) → list q s b x ≡ true
-          → (3 ≤ phase q s x) × (number q s b < number q s x)
+      larger : (s : Image) → Grown n s → HasNumber q b m s → Passes b m s → (x : ℕ) → list q s b x ≡ true
+          → (3 ≤ phase q s x) × (ticket q s b < ticket q s x)
       larger s g h y x e =
           let z = y .0 x .1 h in let k = z .1 e in let j = y .1 .1 x (omega arith) in let v = line .listed s g b x (z .0) e in
           let d = line .apart s g x b (v .1) (omega arith) (h .0) in (k, omega arith)
@@ -187,7 +187,7 @@ module _ {n : ℕ} {q : Side} (line : Line n q) where
   in-line : (s : Image) → Grown n s → (b : ℕ) → 2 ≤ phase q s b → b < n
   in-line s g b h = is-below s g b (line .within s g b (omega arith))
 
-  pub ahead-less : (s : Image) → Grown n s → (b m : ℕ) → Holds q b m s → suc (ahead n q s m) ≤ n
+  pub ahead-less : (s : Image) → Grown n s → (b m : ℕ) → HasNumber q b m s → suc (ahead n q s m) ≤ n
   ahead-less s g b m h =
       omega (
         arith,
@@ -206,24 +206,24 @@ module _ {n : ℕ} {q : Side} (line : Line n q) where
   cost-is ex zero = omega arith
   cost-is ex (suc j) = let h = cost-is ex j in omega arith
 
-  module _ (ex : ℕ) (leaves : (s : Image) → Grown n s → (b m : ℕ) → Far q b m 5 s → After n ex (Gone q b m) s) where
+  module _ (ex : ℕ) (leaves : (s : Image) → Grown n s → (b m : ℕ) → Far q b m 5 s → Following n ex (Gone q b m) s) where
     -- with no smaller number after k rounds
-    first : (b m k : ℕ) → 4 ≤ k → (s : Image) → Grown n s → m ≤ counter q s → After n k (Least q m) s → After n (k + suc ex) (Gone q b m) s
+    first : (b m k : ℕ) → 4 ≤ k → (s : Image) → Grown n s → m ≤ counter q s → Following n k (Least q m) s → Following n (k + suc ex) (Gone q b m) s
     first b m k h s g l a =
         andThen k (suc ex) (k + suc ex) refl s g
         (both k s (later (λ s c g o y x. seen-stable b m 3 x s c g o (y x)) 4 k h s g (ready b m s g l)) a)
         (λ t i y. andThen 1 ex (suc ex) (omega arith) t i (pass b m t i y) (λ t i y. leaves t i b m y))
 
-    pub drains : (j : ℕ) (s : Image) → Grown n s → (b m : ℕ) → m ≤ counter q s → ahead n q s m ≤ j → After n (cost ex j) (Gone q b m) s
+    pub drains : (j : ℕ) (s : Image) → Grown n s → (b m : ℕ) → m ≤ counter q s → ahead n q s m ≤ j → Following n (cost ex j) (Gone q b m) s
     unfolding cost
     drains zero s g b m l h = first b m 4 (omega arith) s g l (stays (least-stable m) 4 s g (l, least))
       where
-        least : (x : ℕ) → 2 ≤ phase q s x → m ≤ number q s x
-        least x k = by-cases (decLe m (number q s x)) (λ z. z) (λ z. absurd (
+        least : (x : ℕ) → 2 ≤ phase q s x → m ≤ ticket q s x
+        least x k = by-cases (decLe m (ticket q s x)) (λ z. z) (λ z. absurd (
             omega (arith, h, one-yes (ahead? q s m x) (k, omega arith), sum-has n x (λ b. one (ahead? q s m b)) (in-line s g x k))))
     drains (suc j) s g b m l h = first b m (cost ex j) (omega (arith, cost-is ex j)) s g l (smaller (drains j s g))
       where
-        fewer : (x m′ : ℕ) → m′ < m → Holds q x m′ s → ahead n q s m′ ≤ j
+        fewer : (x m′ : ℕ) → m′ < m → HasNumber q x m′ s → ahead n q s m′ ≤ j
         fewer x m′ u y =
             let z = sum-less n x (λ b. one (ahead? q s m′ b)) (λ b. one (ahead? q s m b)) (in-line s g x (y .0))
             (λ b. one-if (ahead? q s m′ b) (ahead? q s m b) (λ v. (v .0, omega (arith, v .1))))
@@ -231,16 +231,16 @@ module _ {n : ℕ} {q : Side} (line : Line n q) where
             omega arith
 
         -- every smaller number is gone after as many rounds as it needs
-        smaller : ((x m′ : ℕ) → m′ ≤ counter q s → ahead n q s m′ ≤ j → After n (cost ex j) (Gone q x m′) s) → After n (cost ex j) (Least q m) s
+        smaller : ((x m′ : ℕ) → m′ ≤ counter q s → ahead n q s m′ ≤ j → Following n (cost ex j) (Gone q x m′) s) → Following n (cost ex j) (Least q m) s
         smaller rec =
             so (least-stable m) (cost ex j) s g
             (both (cost ex j) s
             (every (cost ex j) s (λ x. every (cost ex j) s (λ m′. every (cost ex j) s (λ (u : m′ < m).
-            by-cases (Dec·and (decLe 2 (phase q s x)) (ℕ-discrete (number q s x) m′))
+            by-cases (Dec·and (decLe 2 (phase q s x)) (ℕ-discrete (ticket q s x) m′))
             (λ y. rec x m′ (omega arith) (fewer x m′ u y))
             (λ y. stays (gone-stable x m′) (cost ex j) s g (omega arith, y))))))
             (stays (far-stable b m 0) (cost ex j) s g (l, λ _. omega arith)))
             (λ t i y. (
               y .1 .0,
-              λ x k. by-cases (decLe m (number q t x)) (λ z. z) (λ z. absurd (y .0 x (number q t x) (omega arith) .1 (k, refl))),
+              λ x k. by-cases (decLe m (ticket q t x)) (λ z. z) (λ z. absurd (y .0 x (ticket q t x) (omega arith) .1 (k, refl))),
             ))

@@ -1,7 +1,7 @@
 -- What a change of one client does to both queues and to its transaction. A queue reads the clients in its own way (`Side`): each client's phase
 -- by its stage, its number and its list. One call, as a queue sees it, is a `Tick`; what a call does altogether is an `Effect`. Begin, closing and
 -- a step of Advance that does not close (`Up`) each have one. Beside what demand 3 keeps of the queues, a list names only other clients that are
--- in the queue (`Listed`): a bit goes when its client leaves.
+-- in the queue (`OnLists`): a bit goes when its client leaves.
 -- Assumes nothing.
 use Prim.Native.Nat.{ℕ, suc, _-_, min, _≤_, _<_}
 use mathlib.Core.Path.{_≡_, refl, sym, _∙_, ap, subst}
@@ -13,7 +13,7 @@ use native.Mathlib.Omega.{arith}
 use Rattle.spec.specs.Set.{clients}
 use Rattle.spec.specs.Run.{Call, Begin}
 use Rattle.history.proofs.Tickets.{clear-own}
-use Rattle.history.proofs.Model.{Client, State, DRow, CRow, put, same, clearBoth, closed, newcomer, rphase, cphase, begun, leave}
+use Rattle.history.proofs.Model.{Client, State, DRow, CRow, putₛ, same, clearBoth, closedₛ, newcomer, rphase, cphase, begunₛ, leave}
 use Rattle.history.proofs.Moves.{put-at, put-off, each, Tame, tame-same, tame-both}
 use Rattle.history.proofs.Arms.{cph-in, cph-out}
 
@@ -25,24 +25,24 @@ pub record Side : Type 0 where
   pub list : Client → ℕ → Bool
   pub counter : State → ℕ
 
-abbrev pub requests : Side
-requests = record { phase = rphase; number = λ c. c .request; list = λ c. c .rwait; counter = λ s. s .R }
+abbrev pub requestSide : Side
+requestSide = record { phase = rphase; number = λ c. c .request; list = λ c. c .rwait; counter = λ s. s .R }
 
-abbrev pub commits : Side
-commits = record { phase = cphase; number = λ c. c .commit; list = λ c. c .cwait; counter = λ s. s .C }
+abbrev pub commitSide : Side
+commitSide = record { phase = cphase; number = λ c. c .commit; list = λ c. c .cwait; counter = λ s. s .C }
 
 abbrev pub phaseOf : Side → (ℕ → Client) → ℕ → ℕ
 phaseOf q cl b = q .phase (cl b .stage)
 
-abbrev pub numberOf : Side → (ℕ → Client) → ℕ → ℕ
-numberOf q cl b = q .number (cl b)
+abbrev pub numberOn : Side → (ℕ → Client) → ℕ → ℕ
+numberOn q cl b = q .number (cl b)
 
 abbrev pub listOf : Side → (ℕ → Client) → ℕ → ℕ → Bool
 listOf q cl b = q .list (cl b)
 
 -- who is on a list is another client in the queue
-abbrev pub Listed : Side → (ℕ → Client) → Type 0
-Listed q cl = (b x : ℕ) → 4 ≤ phaseOf q cl b → listOf q cl b x ≡ true → (1 ≤ phaseOf q cl x) × (x ≢ b)
+abbrev pub OnLists : Side → (ℕ → Client) → Type 0
+OnLists q cl = (b x : ℕ) → 4 ≤ phaseOf q cl b → listOf q cl b x ≡ true → (1 ≤ phaseOf q cl x) × (x ≢ b)
 
 -- a client, from c to d: if it has a number that was taken before, it had it before, and is no less far
 abbrev pub Back : Side → ℕ → Client → Client → Type 0
@@ -54,7 +54,7 @@ Back q ctr c d =
 pub record Tick (q : Side) (cl : ℕ → Client) (ctr : ℕ) (cl′ : ℕ → Client) (ctr′ : ℕ) : Type 0 where
   pub counter : ctr ≤ ctr′
   pub back : (b : ℕ) → Back q ctr (cl b) (cl′ b)
-  pub lists : (b x : ℕ) → 4 ≤ phaseOf q cl b → 2 ≤ phaseOf q cl′ b → numberOf q cl′ b ≤ ctr → listOf q cl′ b x ≡ true
+  pub lists : (b x : ℕ) → 4 ≤ phaseOf q cl b → 2 ≤ phaseOf q cl′ b → numberOn q cl′ b ≤ ctr → listOf q cl′ b x ≡ true
       → (listOf q cl b x ≡ true) × (phaseOf q cl x ≤ phaseOf q cl′ x)
 
 same-tick : {q : Side} {cl : ℕ → Client} {ctr : ℕ} → Tick q cl ctr cl ctr
@@ -78,18 +78,18 @@ module _ (q : Side) (cl : ℕ → Client) (a : ℕ) (c : Client) (f : Client →
 
   module _ {ctr ctr′ : ℕ} (t : Touch) (o : Own ctr) (le : ctr ≤ ctr′) where
     abbrev cl′ : ℕ → Client
-    cl′ = put a c f cl
+    cl′ = putₛ a c f cl
 
     phase-at : phaseOf q cl′ a ≡ q .phase (c .stage)
     phase-at = ap (λ (d : Client). q .phase (d .stage)) (put-at a c f cl)
 
-    number-at : numberOf q cl′ a ≡ q .number c
+    number-at : numberOn q cl′ a ≡ q .number c
     number-at = ap (q .number) (put-at a c f cl)
 
     phase-off : (b : ℕ) → b ≢ a → phaseOf q cl′ b ≡ phaseOf q cl b
     phase-off b n = ap (λ (d : Client). q .phase (d .stage)) (put-off a c f cl b n) ∙ ap (q .phase) (t .stage (cl b))
 
-    number-off : (b : ℕ) → b ≢ a → numberOf q cl′ b ≡ numberOf q cl b
+    number-off : (b : ℕ) → b ≢ a → numberOn q cl′ b ≡ numberOn q cl b
     number-off b n = ap (q .number) (put-off a c f cl b n) ∙ t .number (cl b)
 
     list-at : (x : ℕ) → listOf q cl′ a x ≡ true → q .list c x ≡ true
@@ -123,17 +123,17 @@ module _ (q : Side) (cl : ℕ → Client) (a : ℕ) (c : Client) (f : Client →
     }
       where
         Lists : ℕ → Type 0
-        Lists b = (x : ℕ) → 4 ≤ phaseOf q cl b → 2 ≤ phaseOf q cl′ b → numberOf q cl′ b ≤ ctr → listOf q cl′ b x ≡ true
+        Lists b = (x : ℕ) → 4 ≤ phaseOf q cl b → 2 ≤ phaseOf q cl′ b → numberOn q cl′ b ≤ ctr → listOf q cl′ b x ≡ true
             → (listOf q cl b x ≡ true) × (phaseOf q cl x ≤ phaseOf q cl′ x)
 
-        mine : (x : ℕ) → 2 ≤ phaseOf q cl′ a → numberOf q cl′ a ≤ ctr → phaseOf q cl x ≤ phaseOf q cl′ x
+        mine : (x : ℕ) → 2 ≤ phaseOf q cl′ a → numberOn q cl′ a ≤ ctr → phaseOf q cl x ≤ phaseOf q cl′ x
         mine x k l =
             by-cases (ℕ-discrete x a)
             (λ i. subst (λ (y : ℕ). phaseOf q cl y ≤ phaseOf q cl′ y) (sym i)
             (let z = o .back (omega (arith, phase-at)) (omega (arith, number-at)) .2 in omega (arith, phase-at)))
             (λ m. omega (arith, phase-off x m))
 
-    still-listed : Listed q cl → Listed q cl′
+    still-listed : OnLists q cl → OnLists q cl′
     still-listed was =
         each a (λ b. (x : ℕ) → 4 ≤ phaseOf q cl′ b → listOf q cl′ b x ≡ true → (1 ≤ phaseOf q cl′ x) × (x ≢ b))
         (λ x h e. elim (o .made x (omega (arith, phase-at)) (list-at x e)) [
@@ -160,10 +160,10 @@ pub record Keep (k : Call) (b W : ℕ) (c d : Client) : Type 0 where
   pub held : 1 ≤ d .number → d .number ≤ W → Same c d
 
 pub record Effect (k : Call) (s t : State) : Type 0 where
-  pub tick-R : Tick requests (s .cl) (s .R) (t .cl) (t .R)
-  pub tick-C : Tick commits (s .cl) (s .C) (t .cl) (t .C)
-  pub lists-R : Listed requests (s .cl) → Listed requests (t .cl)
-  pub lists-C : Listed commits (s .cl) → Listed commits (t .cl)
+  pub tick-R : Tick requestSide (s .cl) (s .R) (t .cl) (t .R)
+  pub tick-C : Tick commitSide (s .cl) (s .C) (t .cl) (t .C)
+  pub lists-R : OnLists requestSide (s .cl) → OnLists requestSide (t .cl)
+  pub lists-C : OnLists commitSide (s .cl) → OnLists commitSide (t .cl)
   pub keep : (b : ℕ) → Keep k b (s .W) (s .cl b) (t .cl b)
   pub begun : s .W ≤ t .W
 
@@ -178,30 +178,30 @@ quiet s t e w r c = record {
   begun = omega arith;
 }
 
-abbrev pub after : State → ℕ → ℕ → ℕ → ℕ → List DRow → List CRow → (ℕ → Client) → State
-after s W R C last d m cl = record { bounds = s .bounds; W = W; R = R; C = C; last = last; dat = d; comm = m; cl = cl }
+abbrev pub stateWith : State → ℕ → ℕ → ℕ → ℕ → List DRow → List CRow → (ℕ → Client) → State
+stateWith s W R C last d m cl = record { bounds = s .bounds; W = W; R = R; C = C; last = last; dat = d; comm = m; cl = cl }
 
 module _ (s : State) (a : ℕ) (c : Client) (f : Client → Client) (tame : Tame a f) where
   acts : {k : Call}
       → (rphase (c .stage) < rphase (s .cl a .stage) → (d : Client) → f d .rwait a ≡ true → ⊥)
       → (cphase (c .stage) < cphase (s .cl a .stage) → (d : Client) → f d .cwait a ≡ true → ⊥)
-      → Own requests (s .cl) a c f (s .R) → Own commits (s .cl) a c f (s .C) → Keep k a (s .W) (s .cl a) c
+      → Own requestSide (s .cl) a c f (s .R) → Own commitSide (s .cl) a c f (s .C) → Keep k a (s .W) (s .cl a) c
       → (W R C last : ℕ) (d : List DRow) (m : List CRow) → s .W ≤ W → s .R ≤ R → s .C ≤ C
-      → Effect k s (after s W R C last d m (put a c f (s .cl)))
+      → Effect k s (stateWith s W R C last d m (putₛ a c f (s .cl)))
   acts {k} zr zc r o e W R C last d m lw lr lc = record {
-    tick-R = tick requests (s .cl) a c f to-R r lr;
-    tick-C = tick commits (s .cl) a c f to-C o lc;
-    lists-R = still-listed requests (s .cl) a c f to-R r lr;
-    lists-C = still-listed commits (s .cl) a c f to-C o lc;
-    keep = each a (λ b. Keep k b (s .W) (s .cl b) (put a c f (s .cl) b))
+    tick-R = tick requestSide (s .cl) a c f to-R r lr;
+    tick-C = tick commitSide (s .cl) a c f to-C o lc;
+    lists-R = still-listed requestSide (s .cl) a c f to-R r lr;
+    lists-C = still-listed commitSide (s .cl) a c f to-C o lc;
+    keep = each a (λ b. Keep k b (s .W) (s .cl b) (putₛ a c f (s .cl) b))
         (rw (put-at a c f (s .cl)) e) (λ b n. rw (put-off a c f (s .cl) b n) (kept b));
     begun = lw;
   }
     where
-      to-R : Touch requests (s .cl) a c f
+      to-R : Touch requestSide (s .cl) a c f
       to-R = record { stage = tame .stage; number = tame .request; fewer = tame .fewer-R; clears = zr }
 
-      to-C : Touch commits (s .cl) a c f
+      to-C : Touch commitSide (s .cl) a c f
       to-C = record { stage = tame .stage; number = tame .commit; fewer = tame .fewer-C; clears = zc }
 
       kept : (b : ℕ) → Keep k b (s .W) (s .cl b) (f (s .cl b))
@@ -221,26 +221,26 @@ pub out-of-commits : (k : ℕ) → k ≡ 0 → cphase k ≡ 0
 out-of-commits k e = ap cphase e ∙ cph-in 0 (omega arith)
 
 module _ (cl : ℕ → Client) (a : ℕ) (c : Client) (f : Client → Client) (z : c .stage ≡ 0) where
-  out-R : {ctr : ℕ} → Own requests cl a c f ctr
+  out-R : {ctr : ℕ} → Own requestSide cl a c f ctr
   unfolding rphase
   out-R = record { back = λ h. absurd (omega arith); lists = λ x h k. absurd (omega arith); made = λ x h. absurd (omega arith) }
 
-  out-C : {ctr : ℕ} → Own commits cl a c f ctr
+  out-C : {ctr : ℕ} → Own commitSide cl a c f ctr
   out-C =
       let e = out-of-commits (c .stage) z in
       record { back = λ h. absurd (omega arith); lists = λ x h k. absurd (omega arith); made = λ x h. absurd (omega arith) }
 
-pub closes : {k : Call} (s : State) (a : ℕ) (d : List DRow) → Effect k s (leave s a d)
-unfolding closed
-closes s a d =
-    acts s a closed (clearBoth a) (tame-both a) (λ _ d. clear-own a (d .rwait)) (λ _ d. clear-own a (d .cwait))
-    (out-R (s .cl) a closed (clearBoth a) refl) (out-C (s .cl) a closed (clearBoth a) refl)
+pub closing : {k : Call} (s : State) (a : ℕ) (d : List DRow) → Effect k s (leave s a d)
+unfolding closedₛ
+closing s a d =
+    acts s a closedₛ (clearBoth a) (tame-both a) (λ _ d. clear-own a (d .rwait)) (λ _ d. clear-own a (d .cwait))
+    (out-R (s .cl) a closedₛ (clearBoth a) refl) (out-C (s .cl) a closedₛ (clearBoth a) refl)
     record { shut = λ _. inl refl; alive = λ h. absurd (omega arith); held = λ h. absurd (omega arith) }
     (s .W) (s .R) (s .C) (s .last) d (s .comm) (omega arith) (omega arith) (omega arith)
 
-pub opens : (s : State) (a : ℕ) → a < clients → s .cl a .stage ≡ 0 → Effect (Begin a) s (begun s a .state)
-unfolding begun rphase
-opens s a h e =
+pub beginning : (s : State) (a : ℕ) → a < clients → s .cl a .stage ≡ 0 → Effect (Begin a) s (begunₛ s a .state)
+unfolding begunₛ rphase
+beginning s a h e =
     acts s a (newcomer s) same (tame-same a)
     (λ z. absurd (omega arith)) (λ z. absurd (omega (arith, out-of-commits (s .cl a .stage) e)))
     (out-R (s .cl) a (newcomer s) same refl) (out-C (s .cl) a (newcomer s) same refl)
@@ -262,9 +262,9 @@ pub record Up (s : State) (a : ℕ) (c : Client) : Type 0 where
   pub request : Fork (s .cl a .stage ≡ 1) (c .request ≡ s .cl a .request) (c .request ≡ suc (s .R))
   pub commit : Fork (s .cl a .stage ≡ 7) (c .commit ≡ s .cl a .commit) (c .commit ≡ suc (s .C))
   pub rwait : Fork (s .cl a .stage ≡ 3) ((x : ℕ) → c .rwait x ≡ true → s .cl a .rwait x ≡ true)
-      ((x : ℕ) → c .rwait x ≡ true → (1 ≤ phaseOf requests (s .cl) x) × (x ≢ a))
+      ((x : ℕ) → c .rwait x ≡ true → (1 ≤ phaseOf requestSide (s .cl) x) × (x ≢ a))
   pub cwait : Fork (s .cl a .stage ≡ 9) ((x : ℕ) → c .cwait x ≡ true → s .cl a .cwait x ≡ true)
-      ((x : ℕ) → c .cwait x ≡ true → (1 ≤ phaseOf commits (s .cl) x) × (x ≢ a))
+      ((x : ℕ) → c .cwait x ≡ true → (1 ≤ phaseOf commitSide (s .cl) x) × (x ≢ a))
 
 -- the commit queue's phase at stage k, as arithmetic
 abbrev pub Phases : ℕ → Type 0
@@ -274,7 +274,7 @@ pub phases : (k : ℕ) → Phases k
 phases k = by-cases (decLe 13 k) (λ h. inr (h, cph-out k h)) (λ h. inl (omega arith, cph-in k (omega arith)))
 
 module _ {s : State} {a : ℕ} {c : Client} (u : Up s a c) (f : Client → Client) where
-  up-R : Own requests (s .cl) a c f (s .R)
+  up-R : Own requestSide (s .cl) a c f (s .R)
   unfolding rphase
   up-R = record {
     back = λ h l. by-cases (ℕ-discrete (s .cl a .stage) 1)
@@ -284,10 +284,10 @@ module _ {s : State} {a : ℕ} {c : Client} (u : Up s a c) (f : Client → Clien
     made = λ x h e. by-cases (ℕ-discrete (s .cl a .stage) 3) (λ i. inr (u .rwait .1 i x e)) (λ i. inl (omega (arith, u .high)));
   }
 
-  up-C : Own commits (s .cl) a c f (s .C)
+  up-C : Own commitSide (s .cl) a c f (s .C)
   up-C = go (phases (s .cl a .stage)) (phases (c .stage))
     where
-      go : Phases (s .cl a .stage) → Phases (c .stage) → Own commits (s .cl) a c f (s .C)
+      go : Phases (s .cl a .stage) → Phases (c .stage) → Own commitSide (s .cl) a c f (s .C)
       go x (inr y) = record { back = λ h. absurd (omega arith); lists = λ z h k. absurd (omega arith); made = λ z h. absurd (omega arith) }
       go (inr x) (inl y) = absurd (omega (arith, u .low))
       go (inl x) (inl y) = record {
@@ -325,7 +325,7 @@ module _ {s : State} {a : ℕ} {c : Client} (u : Up s a c) (f : Client → Clien
 
   pub ups : {k : Call} → Tame a f → (c .stage ≡ 13 → (d : Client) → f d .cwait a ≡ true → ⊥)
       → (R C last : ℕ) (d : List DRow) (m : List CRow) → s .R ≤ R → s .C ≤ C
-      → Effect k s (after s (s .W) R C last d m (put a c f (s .cl)))
+      → Effect k s (stateWith s (s .W) R C last d m (putₛ a c f (s .cl)))
   ups tame out R C last d m lr lc =
       acts s a c f tame (λ z. absurd (up-in-R z))
       (λ z. by-cases (decLe (c .stage) 12) (λ h. absurd (up-in-C h z)) (λ h. out (omega (arith, u .top))))

@@ -1,6 +1,6 @@
 -- One transaction, from the request queue on. Transaction t of client b has its request number after a round (`numbered`), and no request number is
 -- held for more than 4 + n(3n + 9) rounds (`requested`): so t is over after 5 + n(3n + 9) rounds, which is at most 4n² + 32, since
--- n² - 9n + 27 is never negative (`over-in-time`). A transaction that is over was ended by a call, which its fate names (`ended`).
+-- n² - 9n + 27 is never negative (`over-in-time`). A transaction that is over was ended by a call, which its fate names (`was-closed`).
 -- Assumes nothing.
 use Prim.Native.Nat.{ℕ, zero, suc, _+_, _*_, _≤_}
 use mathlib.Core.Path.{_≡_, refl, sym, _∙_, ap}
@@ -13,15 +13,15 @@ use Rattle.spec.specs.Run.{Call}
 use Rattle.history.proofs.Model.{rphase}
 use Rattle.history.proofs.View.{view}
 use Rattle.history.proofs.AllCalls.{told-by}
-use Rattle.history.specs.Rounds.{AllBelow, Fate, StillOpen, Closed, Abandoned, fateBy, first, limit}
+use Rattle.history.specs.Rounds.{AllBelow, Fate, StillOpen, Closed, Abandoned, fateBy, earlier, roundLimit}
 use Rattle.history.proofs.Changes.{Remains, remains, goes-up, goes-out, stays-R, stays-C}
 use Rattle.history.proofs.Grown.{next, client, Grown, is-open, changed, does, gets, grows}
-use Rattle.history.proofs.AfterRounds.{run, After, Stable, Hit, stays, andThen, so, later, both, one-round}
+use Rattle.history.proofs.AfterRounds.{run, Following, Stable, Hit, stays, andThen, so, later, both, one-round}
 use Rattle.history.proofs.Queues.{requested}
 
 -- ---- the limit
 
-enough : (n : ℕ) → 5 + n * (3 * n + 9) ≤ limit n
+enough : (n : ℕ) → 5 + n * (3 * n + 9) ≤ roundLimit n
 enough zero = omega arith
 enough (suc zero) = omega arith
 enough (suc (suc zero)) = omega arith
@@ -64,7 +64,7 @@ module _ (n b t : ℕ) (pos : 1 ≤ t) where
       )
 
   -- a round to the request number
-  numbered : (s : Image) → Grown n s → Past b t 1 s → After n 1 (Past b t 2) s
+  numbered : (s : Image) → Grown n s → Past b t 1 s → Following n 1 (Past b t 2) s
   numbered s g x =
       by-cases (ℕ-discrete (client s b .number) t)
       (λ e. one-round b (past-stable 1) (past-stable 2) hit s g x (x .1 e))
@@ -84,7 +84,7 @@ module _ (n b t : ℕ) (pos : 1 ≤ t) where
           )
 
   -- and with the request number the transaction goes
-  over-then : (s : Image) → Grown n s → Past b t 2 s → After n (4 + n * (3 * n + 9)) (Over b t) s
+  over-then : (s : Image) → Grown n s → Past b t 2 s → Following n (4 + n * (3 * n + 9)) (Over b t) s
   unfolding rphase
   over-then s g x =
       by-cases (ℕ-discrete (client s b .number) t)
@@ -96,7 +96,7 @@ module _ (n b t : ℕ) (pos : 1 ≤ t) where
       (λ u j w. (w .1 .0, λ i. let z = w .1 .1 i in w .0 .1 (omega (arith, z .0), z .1))))
       (λ e. stays over-stable (4 + n * (3 * n + 9)) s g (x .0, e))
 
-  pub over-in-time : (k : ℕ) → limit n ≤ k → (s : Image) → Grown n s → Past b t 1 s → After n k (Over b t) s
+  pub over-in-time : (k : ℕ) → roundLimit n ≤ k → (s : Image) → Grown n s → Past b t 1 s → Following n k (Over b t) s
   over-in-time k l s g x =
       later over-stable (5 + n * (3 * n + 9)) k (omega (arith, enough n)) s g
       (andThen 1 (4 + n * (3 * n + 9)) (5 + n * (3 * n + 9)) (omega arith) s g (numbered s g x) over-then)
@@ -105,17 +105,17 @@ module _ (n b t : ℕ) (pos : 1 ≤ t) where
 
 abbrev pub fated : ℕ → Image → List Call → Fate
 fated b s [] = StillOpen
-fated b s (c ∷ l) = first (fateBy b c (told-by c s)) (fated b (next s c) l)
+fated b s (c ∷ l) = earlier (fateBy b c (told-by c s)) (fated b (next s c) l)
 
 -- a transaction that is over, and was not abandoned, was closed
-pub ended : {n : ℕ} (b t : ℕ) (s : Image) (l : List Call) → Grown n s → AllBelow n l → client s b .number ≡ t → 1 ≤ client s b .stage
+pub was-closed : {n : ℕ} (b t : ℕ) (s : Image) (l : List Call) → Grown n s → AllBelow n l → client s b .number ≡ t → 1 ≤ client s b .stage
     → client (run s l) b .number ≢ t → fated b s l ≢ Abandoned → fated b s l ≡ Closed
-ended b t s [] g o e h f a = absurd (f e)
-ended b t s (c ∷ l) g o e h f a =
-    go (fateBy b c (told-by c s)) refl (λ z. ended b t (next s c) l (grows s c g (o .0)) (o .1) (z .0 ∙ e) (z .1) f)
+was-closed b t s [] g o e h f a = absurd (f e)
+was-closed b t s (c ∷ l) g o e h f a =
+    go (fateBy b c (told-by c s)) refl (λ z. was-closed b t (next s c) l (grows s c g (o .0)) (o .1) (z .0 ∙ e) (z .1) f)
   where
-    by : {x : Fate} → fateBy b c (told-by c s) ≡ x → fated b s (c ∷ l) ≡ first x (fated b (next s c) l)
-    by i = ap (λ (x : Fate). first x (fated b (next s c) l)) i
+    by : {x : Fate} → fateBy b c (told-by c s) ≡ x → fated b s (c ∷ l) ≡ earlier x (fated b (next s c) l)
+    by i = ap (λ (x : Fate). earlier x (fated b (next s c) l)) i
 
     go : (x : Fate) → fateBy b c (told-by c s) ≡ x
         → (Remains (client s b) (client (next s c) b) → fated b (next s c) l ≢ Abandoned → fated b (next s c) l ≡ Closed)

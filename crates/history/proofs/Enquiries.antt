@@ -17,7 +17,7 @@ use Rattle.spec.specs.declared.Progress.{Progress}
 use Rattle.spec.specs.declared.Progress.the-variants.{Stage, Waiting, Conflict, Done}
 use Rattle.spec.specs.Answers.{Answer, Answered, Refused}
 use Rattle.spec.specs.Run.{Call, Begin, Advance, Memory}
-use Rattle.spec.specs.Table.{Commit, Open, Table, opens, tell}
+use Rattle.spec.specs.Table.{Commit, Open, Table, newlyOpen, update}
 use Rattle.spec.specs.Right.{Bounds, lastNumber, Wrote, RightBegin, RightProgress, RightAdvance, RightRun}
 use Rattle.history.proofs.Lists.{none-some, same-some}
 use Rattle.history.specs.Demand.{Nowhere, Never, Enquiry}
@@ -44,11 +44,11 @@ looks-lasts s = record {
   done = λ n p. p;
 }
 
-begin-holds : (k w : ℕ) (b : Begun) (t : Table) → RightBegin w t k (Answered b) → HoldsIn k (Looks (b .snapshot)) (tell (Begin k) (Answered b) t)
-unfolding tell
+begin-holds : (k w : ℕ) (b : Begun) (t : Table) → RightBegin w t k (Answered b) → HoldsIn k (Looks (b .snapshot)) (update (Begin k) (Answered b) t)
+unfolding update
 begin-holds k w b t r = (
-  opens t,
-  put-same k (some (opens t)) (t .clients),
+  newlyOpen t,
+  put-same k (some (newlyOpen t)) (t .clients),
   record {
     stage = refl;
     nothing = λ h. false≢true (h .1);

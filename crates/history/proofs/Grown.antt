@@ -11,14 +11,14 @@ use Rattle.spec.specs.Image.{Image}
 use Rattle.spec.specs.Run.{Call, perform}
 use Rattle.spec.specs.Right.{Bounds}
 use Rattle.history.proofs.Model.{Client}
-use Rattle.history.proofs.Plain.{Plain, plain}
+use Rattle.history.proofs.Plain.{Plain, updateₚ}
 use Rattle.history.proofs.View.{view, stage-at}
 use Rattle.history.proofs.Invariant.{Inv}
-use Rattle.history.proofs.Does.{seenAs}
-use Rattle.history.proofs.AllCalls.{Good, took, good-next, told-by}
+use Rattle.history.proofs.Simulates.{observedOutcome}
+use Rattle.history.proofs.AllCalls.{Reached, took, good-next, told-by}
 use Rattle.history.specs.Rounds as calls
 use Rattle.history.specs.Rounds.{Below, serves}
-use Rattle.history.proofs.Effects.{requests, commits, Listed, Same, Effect}
+use Rattle.history.proofs.Effects.{requestSide, commitSide, OnLists, Same, Effect}
 use Rattle.history.proofs.Changes.{Change, change, effect, Brings, served-by}
 
 -- what call c leaves of image s
@@ -32,9 +32,9 @@ pub record Grown (n : ℕ) (s : Image) : Type 0 where
   pub bounds : Bounds
   pub last : ℕ
   pub table : Plain
-  pub good : Good bounds last s table
-  pub lists-R : Listed requests (view s .cl)
-  pub lists-C : Listed commits (view s .cl)
+  pub good : Reached bounds last s table
+  pub lists-R : OnLists requestSide (view s .cl)
+  pub lists-C : OnLists commitSide (view s .cl)
   pub named : (b : ℕ) → n ≤ b → client s b .number ≡ 0
 
 module _ {n : ℕ} (s : Image) (g : Grown n s) where
@@ -52,7 +52,7 @@ module _ {n : ℕ} (s : Image) (g : Grown n s) where
 
   -- ---- one call
 
-  pub changed : (c : Call) → Change (view s) c (seenAs c (perform c s))
+  pub changed : (c : Call) → Change (view s) c (observedOutcome c (perform c s))
   changed c = change (view s) (λ b. inv .one b .idle) (took (g .good) c)
 
   pub does : (c : Call) → Effect c (view s) (view (next s c))
@@ -74,7 +74,7 @@ grows {n} s c g o =
       named = λ b h. elim (x .keep b .shut (g .named b h)) [ inl e ↦ e | inr e ↦ absurd (let l = o b (ap calls.named (e .0)) (e .1) in omega arith) ];
     }
 
-pub grows-table : {n : ℕ} (s : Image) (c : Call) (g : Grown n s) (o : Below n c) → grows s c g o .table ≡ plain (g .table) c (told-by c s)
+pub grows-table : {n : ℕ} (s : Image) (c : Call) (g : Grown n s) (o : Below n c) → grows s c g o .table ≡ updateₚ (g .table) c (told-by c s)
 unfolding grows
 grows-table s c g o = refl
 

@@ -19,8 +19,8 @@ pub mod Arms
 pub mod Bridge
 pub mod Counts
 pub mod Deeds
-pub mod Does
-pub mod Entries
+pub mod Simulates
+pub mod Booked
 pub mod Erase
 pub mod Invariant
 pub mod Listings
@@ -40,7 +40,7 @@ pub mod Storing
 pub mod Sums
 pub mod Tables
 pub mod Tickets
-pub mod Took
+pub mod Transition
 pub mod Trimming
 pub mod View
 pub mod Walk

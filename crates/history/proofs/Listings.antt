@@ -15,25 +15,25 @@ use Rattle.spec.specs.Set.{clients, bit, member, size, collect, strike}
 use Rattle.spec.proofs.Sets.{bit-zero, bit-suc, bit-lt, member-false, member-above, member-collect, member-strike}
 use Rattle.spec.specs.declared.Queue.{Queue}
 use Rattle.spec.specs.Image.{Image, stageOf}
-use Rattle.spec.specs.Steps.{requests, commits, queued, struck, others}
+use Rattle.spec.specs.Steps.{requestQueue, commitQueue, queued, struck, others}
 use Rattle.history.proofs.Lists.{ite-elim}
 use Rattle.history.proofs.Tickets as t
-use Rattle.history.proofs.Tickets.{listing, look, count}
+use Rattle.history.proofs.Tickets.{listing, look, listSize}
 use Rattle.history.proofs.Model.{rphase, cphase}
 use Rattle.history.proofs.Arms.{cph-in, cph-out}
 use Rattle.history.proofs.Searches.{says, says-yes, says-no}
 
 -- ---- how many are on a list
 
-bit-member : (s k : ℕ) → t.bit (member s k) ≡ bit s k
-unfolding t.bit member
+bit-member : (s k : ℕ) → t.oneIf (member s k) ≡ bit s k
+unfolding t.oneIf member
 bit-member s k =
     by-cases (ℕ-discrete (bit s k) 1)
     (λ e. rw (eq-eqb (bit s k) 1 e) (sym e))
     (λ n. rw (ne-eqb (bit s k) 1 n) (omega (arith, n, bit-lt s k)))
 
-pub count-view : (n s : ℕ) → count n (member s) ≡ size n s
-unfolding count size
+pub count-view : (n s : ℕ) → listSize n (member s) ≡ size n s
+unfolding listSize size
 count-view zero s = refl
 count-view (suc n) s = rw (bit-member s n, count-view n s) (omega arith)
 
@@ -58,7 +58,7 @@ pub record Phased (q : Queue) (ph : ℕ → ℕ) : Type 0 where
   pub within : (g : ℕ) → g ≤ 13 → says (decLe 1 (ph g)) ≡ queued q g
   pub noted : (g : ℕ) → g ≤ 13 → 1 ≤ ph g → says (decLe 3 (ph g)) ≡ not (ltb g (q .noted))
 
-pub phased-requests : Phased requests rphase
+pub phased-requests : Phased requestQueue rphase
 unfolding queued rphase
 phased-requests = record {
   within = λ g h. by-cases (decLt g 1)
@@ -87,7 +87,7 @@ commit-before g h k = omega (arith, cph-in g (omega arith))
 commit-last : (g : ℕ) → 1 ≤ cphase g → g ≤ 12
 commit-last g h = by-cases (decLt 12 g) (λ p. absurd (commit-gone g p h)) (λ p. omega (arith, p))
 
-pub phased-commits : Phased commits cphase
+pub phased-commits : Phased commitQueue cphase
 unfolding queued
 phased-commits = record {
   within = λ g h. by-cases (decLt g 7)

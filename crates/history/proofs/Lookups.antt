@@ -12,10 +12,10 @@ use native.Mathlib.Decide.{ℕ-discrete, decLe, decLt}
 use native.Mathlib.Omega.{arith}
 use lib.ListN.{length}
 use Rattle.history.proofs.Lists.{in-nil, in-case, ite-elim, none-some, option-case, best-none, Best, best-some, some-on}
-use Rattle.history.proofs.Model.{DRow, CRow, find, numOf, sift, some?, readKey, checkKey, largest, smallest, valueOf}
-use Rattle.history.proofs.Plain.{Entry, newer, Shares}
-use Rattle.history.proofs.Invariant.{Seen, Uniq, upTo, RowOf, Tab}
-use Rattle.history.proofs.Entries.{is-some, book-max, same-entry, upTo-whole, Top, upTo-some, upTo-none}
+use Rattle.history.proofs.Model.{DRow, CRow, findₛ, numOf, sift, some?, readKey, checkKey, largest, smallestₛ, valueOfₛ}
+use Rattle.history.proofs.Plain.{Entry, newerₚ, Sharesₚ}
+use Rattle.history.proofs.Invariant.{Reader, Uniq, valuesUpTo, RowOf, Tab}
+use Rattle.history.proofs.Booked.{is-some, book-max, same-entry, upTo-whole, Top, upTo-some, upTo-none}
 use Rattle.history.proofs.Tables.{trimDat, trimComm, tab-trimmed, was}
 use Rattle.history.proofs.Counts.{some-has, none-has, valued-none, valued-more}
 use Rattle.spec.specs.Table.{Value}
@@ -42,25 +42,25 @@ read-is : (comm : List CRow) (x S : ℕ) (r : DRow) (n : ℕ) → r .cell ≡ x 
 unfolding readKey
 read-is comm x S r n e f h = if-pos (ℕ-discrete (r .cell) x) e _ _ ∙ sift-is (λ n. decLe n S) (numOf (r .tag) comm) n f h
 
-check-some : (d : List DRow) (comm : List CRow) (u S : ℕ) (r : DRow) (n : ℕ) → checkKey d comm u S r ≡ some n → IsSome (find u (r .cell) d) × (numOf (r .tag) comm ≡ some n) × (S < n)
+check-some : (d : List DRow) (comm : List CRow) (u S : ℕ) (r : DRow) (n : ℕ) → checkKey d comm u S r ≡ some n → IsSome (findₛ u (r .cell) d) × (numOf (r .tag) comm ≡ some n) × (S < n)
 unfolding checkKey
 check-some d comm u S r n =
-    ite-elim (λ o. o ≡ some n → IsSome (find u (r .cell) d) × (numOf (r .tag) comm ≡ some n) × (S < n)) (some? (find u (r .cell) d))
+    ite-elim (λ o. o ≡ some n → IsSome (findₛ u (r .cell) d) × (numOf (r .tag) comm ≡ some n) × (S < n)) (some? (findₛ u (r .cell) d))
     (λ e q. let h = sift-some (λ n. decLt S n) (numOf (r .tag) comm) n q in (e, h .0, h .1)) (λ _ q. absurd (none-some refl q))
 
-check-is : (d : List DRow) (comm : List CRow) (u S : ℕ) (r : DRow) (n : ℕ) → IsSome (find u (r .cell) d) → numOf (r .tag) comm ≡ some n → S < n → checkKey d comm u S r ≡ some n
+check-is : (d : List DRow) (comm : List CRow) (u S : ℕ) (r : DRow) (n : ℕ) → IsSome (findₛ u (r .cell) d) → numOf (r .tag) comm ≡ some n → S < n → checkKey d comm u S r ≡ some n
 unfolding checkKey
-check-is d comm u S r n e f h = if-pos (some? (find u (r .cell) d)) e _ _ ∙ sift-is (λ n. decLt S n) (numOf (r .tag) comm) n f h
+check-is d comm u S r n e f h = if-pos (some? (findₛ u (r .cell) d)) e _ _ ∙ sift-is (λ n. decLt S n) (numOf (r .tag) comm) n f h
 
 largest-some : (k : DRow → Option ℕ) (l : List DRow) (w : ℕ × DRow) → largest k l ≡ some w → Best (λ n m. n < m) (λ n m. decLt n m) k l (w .0) (w .1)
 unfolding largest
 largest-some k l w e = best-some (λ n m. n < m) (λ n m. decLt n m) (λ n m j p q r. omega arith) (λ n m p q. omega arith) k l w e
 
-smallest-some : (k : DRow → Option ℕ) (l : List DRow) (w : ℕ × DRow) → smallest k l ≡ some w → Best (λ n m. m < n) (λ n m. decLt m n) k l (w .0) (w .1)
-unfolding smallest
+smallest-some : (k : DRow → Option ℕ) (l : List DRow) (w : ℕ × DRow) → smallestₛ k l ≡ some w → Best (λ n m. m < n) (λ n m. decLt m n) k l (w .0) (w .1)
+unfolding smallestₛ
 smallest-some k l w e = best-some (λ n m. m < n) (λ n m. decLt m n) (λ n m j p q r. omega arith) (λ n m p q. omega arith) k l w e
 
-module _ {dat : List DRow} {comm : List CRow} {last W : ℕ} {table : ℕ → Option Value} {book : List Entry} {v : ℕ → Seen}
+module _ {dat : List DRow} {comm : List CRow} {last W : ℕ} {table : ℕ → Option Value} {book : List Entry} {v : ℕ → Reader}
     (t : Tab dat comm last W table book v) (a : ℕ) (isopen : 1 ≤ v a .num) where
   -- The commit that the plain table shows to client a has its row.
   shown : (x : ℕ) (w : Value) (e : Top (v a .snap) book x w) → RowOf dat comm (e .entry .number) x
@@ -68,10 +68,10 @@ module _ {dat : List DRow} {comm : List CRow} {last W : ℕ} {table : ℕ → Op
       (λ d. absurd (omega (arith, d .2, e .last (d .0) (d .1) (d .5 a isopen) (d .3))))
       (t .kept (e .entry) x (e .within) (rw (e .puts) tt))
 
-  pub read-right : (x : ℕ) → valueOf (largest (readKey comm x (v a .snap)) dat) ≡ upTo (v a .snap) book x
-  unfolding valueOf largest
+  pub read-right : (x : ℕ) → valueOfₛ (largest (readKey comm x (v a .snap)) dat) ≡ valuesUpTo (v a .snap) book x
+  unfolding valueOfₛ largest
   read-right x = option-case (largest key dat)
-      (λ q. rw q (option-case (upTo S book x) (λ z. sym z)
+      (λ q. rw q (option-case (valuesUpTo S book x) (λ z. sym z)
       (λ w z. let e = upTo-some S book (t .rising) x w z in let k = shown x w e in
       absurd (none-some (best-none (λ n m. n < m) (λ n m. decLt n m) key dat (k .0) q (k .1)) (read-is comm x S (k .0) (e .entry .number) (k .2) (k .3) (e .below))))))
       (λ w q. rw q (found w (largest-some key dat w q)))
@@ -82,12 +82,12 @@ module _ {dat : List DRow} {comm : List CRow} {last W : ℕ} {table : ℕ → Op
       key : DRow → Option ℕ
       key = readKey comm x S
 
-      found : (w : ℕ × DRow) → Best (λ n m. n < m) (λ n m. decLt n m) key dat (w .0) (w .1) → some (w .1 .value) ≡ upTo S book x
+      found : (w : ℕ × DRow) → Best (λ n m. n < m) (λ n m. decLt n m) key dat (w .0) (w .1) → some (w .1 .value) ≡ valuesUpTo S book x
       found w b =
           let r = read-some comm x S (w .1) (w .0) (b .key) in
           let e = t .sound (w .1) (w .0) (b .within) (r .1) in
           let put : e .0 .puts x ≡ some (w .1 .value) = ap (e .0 .puts) (sym (r .0)) ∙ e .3 in
-          option-case (upTo S book x)
+          option-case (valuesUpTo S book x)
           (λ z. absurd (upTo-none S book x z (e .0) (e .1) (omega (arith, e .2, r .2)) (rw put tt)))
           (λ u z. let d = upTo-some S book (t .rising) x u z in let k = shown x u d in
           let ge = d .last (e .0) (e .1) (omega (arith, e .2, r .2)) (rw put tt) in
@@ -97,7 +97,7 @@ module _ {dat : List DRow} {comm : List CRow} {last W : ℕ} {table : ℕ → Op
 
   module _ (late : v a .late ≡ 0) where
     -- A commit since client a began that wrote a cell it wrote has its row.
-    clash-row : (e : Entry) → In e (newer (v a .since) book) → Shares (e .puts) (v a .writes)
+    clash-row : (e : Entry) → In e (newerₚ (v a .since) book) → Sharesₚ (e .puts) (v a .writes)
         → (r : DRow) × In r dat × (checkKey dat comm (v a .num) (v a .snap) r ≡ some (e .number))
     clash-row e i h =
         let o = t .mine a isopen in
@@ -112,15 +112,15 @@ module _ {dat : List DRow} {comm : List CRow} {last W : ℕ} {table : ℕ → Op
         (λ d. absurd (omega (arith, d .2, d .5 a isopen, n .1)))
         (t .kept e (h .0) (n .0) (h .1))
 
-    pub check-none : smallest (checkKey dat comm (v a .num) (v a .snap)) dat ≡ none → (e : Entry) → In e (newer (v a .since) book) → Shares (e .puts) (v a .writes) → ⊥
-    unfolding smallest
+    pub check-none : smallestₛ (checkKey dat comm (v a .num) (v a .snap)) dat ≡ none → (e : Entry) → In e (newerₚ (v a .since) book) → Sharesₚ (e .puts) (v a .writes) → ⊥
+    unfolding smallestₛ
     check-none q e i h =
         let r = clash-row e i h in
         none-some (best-none (λ n m. m < n) (λ n m. decLt m n) (checkKey dat comm (v a .num) (v a .snap)) dat (r .0) q (r .1)) (r .2)
 
-    pub check-least : (w : ℕ × DRow) → smallest (checkKey dat comm (v a .num) (v a .snap)) dat ≡ some w
-        → ((e : Entry) × (e .number ≡ w .0) × (In e (newer (v a .since) book) × Shares (e .puts) (v a .writes)))
-        × ((e : Entry) → In e (newer (v a .since) book) × Shares (e .puts) (v a .writes) → w .0 ≤ e .number)
+    pub check-least : (w : ℕ × DRow) → smallestₛ (checkKey dat comm (v a .num) (v a .snap)) dat ≡ some w
+        → ((e : Entry) × (e .number ≡ w .0) × (In e (newerₚ (v a .since) book) × Sharesₚ (e .puts) (v a .writes)))
+        × ((e : Entry) → In e (newerₚ (v a .since) book) × Sharesₚ (e .puts) (v a .writes) → w .0 ≤ e .number)
     check-least w q =
         let o = t .mine a isopen in
         let b = smallest-some (checkKey dat comm (v a .num) (v a .snap)) dat w q in
@@ -162,7 +162,7 @@ count-cells n (r ∷ l) f below spread has row =
     )
 
 -- After a trim at the last commit with nothing open each cell with a value has one row.
-module _ {dat : List DRow} {comm : List CRow} {last W : ℕ} {table : ℕ → Option Value} {book : List Entry} {v : ℕ → Seen}
+module _ {dat : List DRow} {comm : List CRow} {last W : ℕ} {table : ℕ → Option Value} {book : List Entry} {v : ℕ → Reader}
     (t : Tab dat comm last W table book v) (none-open : (a : ℕ) → v a .num ≡ 0) where
   low-snap : (a : ℕ) → 1 ≤ v a .num → last ≤ v a .snap
   low-snap a h = absurd (omega (arith, none-open a))
@@ -205,5 +205,5 @@ module _ {dat : List DRow} {comm : List CRow} {last W : ℕ} {table : ℕ → Op
       all-le : (e : Entry) → In e book → e .number ≤ last
       all-le e i = omega (arith, book-max book (t .rising) e i, t .book-last)
 
-      by-upTo : (x : ℕ) → table x ≡ upTo last book x
+      by-upTo : (x : ℕ) → table x ≡ valuesUpTo last book x
       by-upTo x = t .all-table x ∙ sym (upTo-whole last book x all-le)

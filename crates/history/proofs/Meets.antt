@@ -9,15 +9,15 @@ use native.Mathlib.Decide.{ℕ-discrete, decLe}
 use native.Mathlib.Omega.{arith}
 use Rattle.history.proofs.Lists.{ite-elim, option-case}
 use Rattle.history.proofs.Sums.{sum, sum-put, sum-has}
-use Rattle.history.proofs.Tickets.{look, count}
+use Rattle.history.proofs.Tickets.{look, listSize}
 use Rattle.spec.specs.Right.{Bounds}
-use Rattle.history.proofs.Model.{newcomer, Client, closed, put, same, clearC, clearBoth, State, Out, rph, cph, smallest, checkKey, atStage, withRequest, withCommit, begun, overwritten, added, trimmed, takeR, takeC, listR, listC, lookR, lookC, checked, committed, fresh}
+use Rattle.history.proofs.Model.{newcomer, Client, closedₛ, putₛ, same, clearC, clearBoth, State, Out, rph, cph, smallestₛ, checkKey, atStageₛ, withRequest, withCommit, begunₛ, overwritten, addedₛ, trimmedₛ, takeR, takeC, listR, listC, lookR, lookC, checkedₛ, committed, fresh}
 use Rattle.history.proofs.Moves.{Tame, tame-same, tame-C, tame-both, put-at, put-off}
-use Rattle.history.proofs.Took.{Took, no-begin, no-read, no-write, no-advance, no-abandon, begins, reads, replaces, adds, at0, ends0, at1, at2, at3, at4, at5, at6, at7, at8, at9, at10, at11, at12, at13, abandons, trims, frees}
+use Rattle.history.proofs.Transition.{Transition, no-begin, no-read, no-write, no-advance, no-abandon, begins, reads, replaces, adds, at0, ends0, at1, at2, at3, at4, at5, at6, at7, at8, at9, at10, at11, at12, at13, abandons, trims, frees}
 use Rattle.spec.specs.Answers.{Answer}
 use Rattle.spec.specs.declared.Progress.{Progress}
 use Rattle.spec.specs.Run.{Call}
-use Rattle.spec.specs.Table.{Told}
+use Rattle.spec.specs.Table.{Observed}
 use Rattle.spec.specs.Set.{clients}
 
 -- 1 for an open client at a stage up to t
@@ -60,25 +60,25 @@ Under-state s = Under (s .R) (s .C) (s .W) (s .cl)
 
 module _ (s : State) (u : Under-state s) where
   shifted : (t a : ℕ) → a < clients → (d : Client) (f : Client → Client) → Tame a f
-      → sum clients (λ b. early t (put a d f (s .cl) b)) + early t (s .cl a) ≡ sum clients (λ b. early t (s .cl b)) + early t d
+      → sum clients (λ b. early t (putₛ a d f (s .cl) b)) + early t (s .cl a) ≡ sum clients (λ b. early t (s .cl b)) + early t d
   shifted t a h d f m =
-      sum-put clients a (λ b. early t (put a d f (s .cl) b)) (λ b. early t (s .cl b)) h (λ b n. ap (early t) (put-off a d f (s .cl) b n) ∙ early-tame t a f m (s .cl b))
+      sum-put clients a (λ b. early t (putₛ a d f (s .cl) b)) (λ b. early t (s .cl b)) h (λ b n. ap (early t) (put-off a d f (s .cl) b n) ∙ early-tame t a f m (s .cl b))
       ∙ ap (λ (z : Client). sum clients (λ b. early t (s .cl b)) + early t z) (put-at a d f (s .cl))
 
   moved : (a : ℕ) → a < clients → (d : Client) (f : Client → Client) → Tame a f → (R C W : ℕ)
-      → R + early 1 d + s .W ≤ s .R + early 1 (s .cl a) + W → C + early 7 d + s .W ≤ s .C + early 7 (s .cl a) + W → Under R C W (put a d f (s .cl))
+      → R + early 1 d + s .W ≤ s .R + early 1 (s .cl a) + W → C + early 7 d + s .W ≤ s .C + early 7 (s .cl a) + W → Under R C W (putₛ a d f (s .cl))
   moved a h d f m R C W p q = record { r = omega (arith, p, u .r, shifted 1 a h d f m); c = omega (arith, q, u .c, shifted 7 a h d f m) }
 
   -- its stage rises, or it is closed
-  later : (a : ℕ) → a < clients → (d : Client) (f : Client → Client) → Tame a f → d .number ≡ s .cl a .number → s .cl a .stage ≤ d .stage → Under (s .R) (s .C) (s .W) (put a d f (s .cl))
+  later : (a : ℕ) → a < clients → (d : Client) (f : Client → Client) → Tame a f → d .number ≡ s .cl a .number → s .cl a .stage ≤ d .stage → Under (s .R) (s .C) (s .W) (putₛ a d f (s .cl))
   later a h d f m e l = moved a h d f m (s .R) (s .C) (s .W) (omega (arith, early-later 1 d (s .cl a) e l)) (omega (arith, early-later 7 d (s .cl a) e l))
 
-  gone : (a : ℕ) → a < clients → Under (s .R) (s .C) (s .W) (put a closed (clearBoth a) (s .cl))
-  unfolding closed
-  gone a h = moved a h closed (clearBoth a) (tame-both a) (s .R) (s .C) (s .W) (omega (arith, early-shut 1 closed refl)) (omega (arith, early-shut 7 closed refl))
+  gone : (a : ℕ) → a < clients → Under (s .R) (s .C) (s .W) (putₛ a closedₛ (clearBoth a) (s .cl))
+  unfolding closedₛ
+  gone a h = moved a h closedₛ (clearBoth a) (tame-both a) (s .R) (s .C) (s .W) (omega (arith, early-shut 1 closedₛ refl)) (omega (arith, early-shut 7 closedₛ refl))
 
-  pub keeps : {c : Call} {x : Out (Answer (Told c))} → Took s c x → Under-state (x .state)
-  unfolding begun overwritten added trimmed takeR takeC listR listC lookR lookC checked committed
+  pub keeps : {c : Call} {x : Out (Answer (Observed c))} → Transition s c x → Under-state (x .state)
+  unfolding begunₛ overwritten addedₛ trimmedₛ takeR takeC listR listC lookR lookC checkedₛ committed
   keeps (no-begin a r n) = u
   keeps (no-read a x r n) = u
   keeps (no-write a x v r n) = u
@@ -90,31 +90,31 @@ module _ (s : State) (u : Under-state s) where
   keeps (reads a x hx op e) = u
   keeps (replaces a x v w op k) = u
   keeps (adds a x v w op n) = u
-  keeps (at0 a h op e k) = later a h (atStage (s .cl a) 1) same (tame-same a) refl (omega arith)
+  keeps (at0 a h op e k) = later a h (atStageₛ (s .cl a) 1) same (tame-same a) refl (omega arith)
   keeps (ends0 a h op e k) = gone a h
   keeps (at1 a h op e) =
       moved a h (withRequest (s .cl a) 2 (suc (s .R))) same (tame-same a) (suc (s .R)) (s .C) (s .W)
       (omega (arith, early-late 1 (withRequest (s .cl a) 2 (suc (s .R))) (omega arith), early-one 1 (s .cl a) op (omega arith)))
       (omega (arith, early-later 7 (withRequest (s .cl a) 2 (suc (s .R))) (s .cl a) refl (omega arith)))
-  keeps (at2 a h op e) = later a h (atStage (s .cl a) 3) same (tame-same a) refl (omega arith)
+  keeps (at2 a h op e) = later a h (atStageₛ (s .cl a) 3) same (tame-same a) refl (omega arith)
   keeps (at3 a h op e) = later a h _ same (tame-same a) refl (omega arith)
   keeps (at4 a h op e) =
-      ite-elim (λ (x : Out (Answer Progress)). Under-state (x .state)) (ℕ-discrete (count clients (look (rph s) (λ b. s .cl b .request) a (s .cl a .rwait))) 0)
+      ite-elim (λ (x : Out (Answer Progress)). Under-state (x .state)) (ℕ-discrete (listSize clients (look (rph s) (λ b. s .cl b .request) a (s .cl a .rwait))) 0)
       (λ _. later a h _ same (tame-same a) refl (omega arith)) (λ _. later a h _ same (tame-same a) refl (omega arith))
   keeps (at5 a h op e) =
-      option-case (smallest (checkKey (s .dat) (s .comm) (s .cl a .number) (s .cl a .snapshot)) (s .dat)) (λ q. rw q (later a h (atStage (s .cl a) 6) same (tame-same a) refl (omega arith))) (λ x q. rw q (gone a h))
-  keeps (at6 a h op e) = later a h (atStage (s .cl a) 7) same (tame-same a) refl (omega arith)
+      option-case (smallestₛ (checkKey (s .dat) (s .comm) (s .cl a .number) (s .cl a .snapshot)) (s .dat)) (λ q. rw q (later a h (atStageₛ (s .cl a) 6) same (tame-same a) refl (omega arith))) (λ x q. rw q (gone a h))
+  keeps (at6 a h op e) = later a h (atStageₛ (s .cl a) 7) same (tame-same a) refl (omega arith)
   keeps (at7 a h op e) =
       moved a h (withCommit (s .cl a) 8 (suc (s .C))) same (tame-same a) (s .R) (suc (s .C)) (s .W)
       (omega (arith, early-later 1 (withCommit (s .cl a) 8 (suc (s .C))) (s .cl a) refl (omega arith)))
       (omega (arith, early-late 7 (withCommit (s .cl a) 8 (suc (s .C))) (omega arith), early-one 7 (s .cl a) op (omega arith)))
-  keeps (at8 a h op e) = later a h (atStage (s .cl a) 9) same (tame-same a) refl (omega arith)
+  keeps (at8 a h op e) = later a h (atStageₛ (s .cl a) 9) same (tame-same a) refl (omega arith)
   keeps (at9 a h op e) = later a h _ same (tame-same a) refl (omega arith)
   keeps (at10 a h op e) =
-      ite-elim (λ (x : Out (Answer Progress)). Under-state (x .state)) (ℕ-discrete (count clients (look (cph s) (λ b. s .cl b .commit) a (s .cl a .cwait))) 0)
+      ite-elim (λ (x : Out (Answer Progress)). Under-state (x .state)) (ℕ-discrete (listSize clients (look (cph s) (λ b. s .cl b .commit) a (s .cl a .cwait))) 0)
       (λ _. later a h _ same (tame-same a) refl (omega arith)) (λ _. later a h _ same (tame-same a) refl (omega arith))
-  keeps (at11 a h op e) = later a h (atStage (s .cl a) 12) same (tame-same a) refl (omega arith)
-  keeps (at12 a h op e) = later a h (atStage (clearC a (s .cl a)) 13) (clearC a) (tame-C a) refl (omega arith)
+  keeps (at11 a h op e) = later a h (atStageₛ (s .cl a) 12) same (tame-same a) refl (omega arith)
+  keeps (at12 a h op e) = later a h (atStageₛ (clearC a (s .cl a)) 13) (clearC a) (tame-C a) refl (omega arith)
   keeps (at13 a h op e) = gone a h
   keeps (abandons a h op k) = gone a h
   keeps trims = u
@@ -127,10 +127,10 @@ module _ (s : State) (u : Under-state s) where
   pub C-left : (a : ℕ) → a < clients → 1 ≤ s .cl a .number → s .cl a .stage ≤ 7 → s .C < s .W
   C-left a h o e = omega (arith, u .c, sum-has clients a (λ b. early 7 (s .cl b)) h, early-one 7 (s .cl a) o e)
 
-none-early : (t n : ℕ) → sum n (λ b. early t closed) ≡ 0
-unfolding sum closed
+none-early : (t n : ℕ) → sum n (λ b. early t closedₛ) ≡ 0
+unfolding sum closedₛ
 none-early t zero = refl
-none-early t (suc n) = omega (arith, early-shut t closed refl, none-early t n)
+none-early t (suc n) = omega (arith, early-shut t closedₛ refl, none-early t n)
 
 pub start-under : (b : Bounds) (w : ℕ) → Under-state (fresh b w)
 unfolding fresh

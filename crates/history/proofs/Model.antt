@@ -19,7 +19,7 @@ use Rattle.spec.specs.Answers.{Answer, Answered}
 use Rattle.spec.specs.Table.{Value, Values, orElse}
 use Rattle.spec.specs.Right.{Bounds}
 use Rattle.history.proofs.Lists.{On, on?, any?, drop?, first, best}
-use Rattle.history.proofs.Tickets.{listing, clear, count}
+use Rattle.history.proofs.Tickets.{listing, clear, listSize}
 
 -- ---- rows
 
@@ -33,11 +33,11 @@ pub record CRow : Type 0 where
   pub tag : ℕ
 
 -- the value that transaction t wrote to cell x, by the rows
-unfoldable pub valueAt : ℕ → ℕ → DRow → Option Value
-valueAt t x r = ite (ℕ-discrete (r .tag) t) (ite (ℕ-discrete (r .cell) x) (some (r .value)) none) none
+unfoldable pub valueAtₛ : ℕ → ℕ → DRow → Option Value
+valueAtₛ t x r = ite (ℕ-discrete (r .tag) t) (ite (ℕ-discrete (r .cell) x) (some (r .value)) none) none
 
-unfoldable pub find : ℕ → ℕ → List DRow → Option Value
-find t x d = first (valueAt t x) d
+unfoldable pub findₛ : ℕ → ℕ → List DRow → Option Value
+findₛ t x d = first (valueAtₛ t x) d
 
 -- the number under which tag t is committed
 unfoldable pub numberAt : ℕ → CRow → Option ℕ
@@ -57,7 +57,7 @@ some? (some a) = yes tt
 -- the write of a row in its place
 unfoldable pub replace : ℕ → ℕ → Value → List DRow → List DRow
 replace t x v [] = []
-replace t x v (r ∷ l) = ite (some? (valueAt t x r)) (record { tag = r .tag; cell = r .cell; value = v } ∷ l) (r ∷ replace t x v l)
+replace t x v (r ∷ l) = ite (some? (valueAtₛ t x r)) (record { tag = r .tag; cell = r .cell; value = v } ∷ l) (r ∷ replace t x v l)
 
 -- ---- clients and states
 
@@ -70,8 +70,8 @@ pub record Client : Type 0 where
   pub rwait : ℕ → Bool
   pub cwait : ℕ → Bool
 
-unfoldable pub closed : Client
-closed = record { number = 0; stage = 0; snapshot = 0; request = 0; commit = 0; rwait = λ _. false; cwait = λ _. false }
+unfoldable pub closedₛ : Client
+closedₛ = record { number = 0; stage = 0; snapshot = 0; request = 0; commit = 0; rwait = λ _. false; cwait = λ _. false }
 
 pub record State : Type 0 where
   pub bounds : Bounds
@@ -84,8 +84,8 @@ pub record State : Type 0 where
   pub cl : ℕ → Client
 
 -- client a becomes c, and every other is touched by f
-unfoldable pub put : ℕ → Client → (Client → Client) → (ℕ → Client) → ℕ → Client
-put a c f cl b = ite (ℕ-discrete b a) c (f (cl b))
+unfoldable pub putₛ : ℕ → Client → (Client → Client) → (ℕ → Client) → ℕ → Client
+putₛ a c f cl b = ite (ℕ-discrete b a) c (f (cl b))
 
 -- what leaving a queue does to the others
 abbrev pub same : Client → Client
@@ -112,52 +112,52 @@ cph s b = cphase (s .cl b .stage)
 
 -- what client a's transaction wrote, by the rows
 abbrev pub writesOf : State → ℕ → Values
-writesOf s a x = find (s .cl a .number) x (s .dat)
+writesOf s a x = findₛ (s .cl a .number) x (s .dat)
 
 -- ---- searches
 
 -- two transactions wrote one cell
-unfoldable pub sharing? : (d : List DRow) (t u : ℕ) → Dec ((r : DRow) × In r d × ((r .tag ≡ t) × IsSome (find u (r .cell) d)))
-sharing? d t u = any? (λ r. Dec·and (ℕ-discrete (r .tag) t) (some? (find u (r .cell) d))) d
+unfoldable pub sharing? : (d : List DRow) (t u : ℕ) → Dec ((r : DRow) × In r d × ((r .tag ≡ t) × IsSome (findₛ u (r .cell) d)))
+sharing? d t u = any? (λ r. Dec·and (ℕ-discrete (r .tag) t) (some? (findₛ u (r .cell) d))) d
 
 -- the key of a row for a read at snapshot S, and for the check of transaction t at snapshot S
 unfoldable pub readKey : List CRow → ℕ → ℕ → DRow → Option ℕ
 readKey comm x S r = ite (ℕ-discrete (r .cell) x) (sift (λ n. decLe n S) (numOf (r .tag) comm)) none
 
 unfoldable pub checkKey : List DRow → List CRow → ℕ → ℕ → DRow → Option ℕ
-checkKey d comm t S r = ite (some? (find t (r .cell) d)) (sift (λ n. decLt S n) (numOf (r .tag) comm)) none
+checkKey d comm t S r = ite (some? (findₛ t (r .cell) d)) (sift (λ n. decLt S n) (numOf (r .tag) comm)) none
 
 unfoldable pub largest : (DRow → Option ℕ) → List DRow → Option (ℕ × DRow)
 largest k l = best (λ n m. n < m) (λ n m. decLt n m) k l
 
-unfoldable pub smallest : (DRow → Option ℕ) → List DRow → Option (ℕ × DRow)
-smallest k l = best (λ n m. m < n) (λ n m. decLt m n) k l
+unfoldable pub smallestₛ : (DRow → Option ℕ) → List DRow → Option (ℕ × DRow)
+smallestₛ k l = best (λ n m. m < n) (λ n m. decLt m n) k l
 
-unfoldable pub valueOf : Option (ℕ × DRow) → Option Value
-valueOf none = none
-valueOf (some w) = some (w .1 .value)
+unfoldable pub valueOfₛ : Option (ℕ × DRow) → Option Value
+valueOfₛ none = none
+valueOfₛ (some w) = some (w .1 .value)
 
 unfoldable pub committedAt : State → ℕ → ℕ → Option Value
-committedAt s x S = valueOf (largest (readKey (s .comm) x S) (s .dat))
+committedAt s x S = valueOfₛ (largest (readKey (s .comm) x S) (s .dat))
 
 unfoldable pub lookup : State → ℕ → ℕ → Option Value
-lookup s a x = orElse (find (s .cl a .number) x (s .dat)) (committedAt s x (s .cl a .snapshot))
+lookup s a x = orElse (findₛ (s .cl a .number) x (s .dat)) (committedAt s x (s .cl a .snapshot))
 
 -- the smallest snapshot of the first n clients that are open
-unfoldable pub lesser : ℕ → Option ℕ → Option ℕ
-lesser n none = some n
-lesser n (some m) = some (min n m)
+unfoldable pub lesserₛ : ℕ → Option ℕ → Option ℕ
+lesserₛ n none = some n
+lesserₛ n (some m) = some (min n m)
 
 unfoldable pub snapshots : ℕ → (ℕ → Client) → Option ℕ
 snapshots zero cl = none
-snapshots (suc n) cl = ite (decLe 1 (cl n .number)) (lesser (cl n .snapshot) (snapshots n cl)) (snapshots n cl)
+snapshots (suc n) cl = ite (decLe 1 (cl n .number)) (lesserₛ (cl n .snapshot) (snapshots n cl)) (snapshots n cl)
 
 unfoldable pub default : ℕ → Option ℕ → ℕ
 default d none = d
 default d (some n) = n
 
-unfoldable pub low : State → ℕ
-low s = default (s .last) (snapshots clients (s .cl))
+unfoldable pub lowₛ : State → ℕ
+lowₛ s = default (s .last) (snapshots clients (s .cl))
 
 -- a committed data row that trim drops: its cell has another with a larger commit number that is at most l
 abbrev pub Passed : List DRow → List CRow → ℕ → DRow → Type 0
@@ -184,14 +184,14 @@ abbrev pub out : {X : Type 0} → State → X → Out X
 out s x = record { state = s; answer = x }
 
 -- a state with the clients or the data rows replaced
-abbrev pub withClients : State → (ℕ → Client) → State
-withClients s cl = record { bounds = s .bounds; W = s .W; R = s .R; C = s .C; last = s .last; dat = s .dat; comm = s .comm; cl = cl }
+abbrev pub withClientsₛ : State → (ℕ → Client) → State
+withClientsₛ s cl = record { bounds = s .bounds; W = s .W; R = s .R; C = s .C; last = s .last; dat = s .dat; comm = s .comm; cl = cl }
 
 abbrev pub withData : State → List DRow → (ℕ → Client) → State
 withData s d cl = record { bounds = s .bounds; W = s .W; R = s .R; C = s .C; last = s .last; dat = d; comm = s .comm; cl = cl }
 
-abbrev pub atStage : Client → ℕ → Client
-atStage c k = record { number = c .number; stage = k; snapshot = c .snapshot; request = c .request; commit = c .commit; rwait = c .rwait; cwait = c .cwait }
+abbrev pub atStageₛ : Client → ℕ → Client
+atStageₛ c k = record { number = c .number; stage = k; snapshot = c .snapshot; request = c .request; commit = c .commit; rwait = c .rwait; cwait = c .cwait }
 
 abbrev pub withRequest : Client → ℕ → ℕ → Client
 withRequest c k r = record { number = c .number; stage = k; snapshot = c .snapshot; request = r; commit = c .commit; rwait = c .rwait; cwait = c .cwait }
@@ -207,29 +207,29 @@ withCwait c k w = record { number = c .number; stage = k; snapshot = c .snapshot
 
 -- client a becomes c, nothing else changes
 abbrev pub move : State → ℕ → Client → State
-move s a c = withClients s (put a c same (s .cl))
+move s a c = withClientsₛ s (putₛ a c same (s .cl))
 
 -- a client that has just begun
 abbrev pub newcomer : State → Client
 newcomer s = record { number = suc (s .W); stage = 0; snapshot = s .last; request = 0; commit = 0; rwait = λ _. false; cwait = λ _. false }
 
-unfoldable pub begun : State → ℕ → Out (Answer Begun)
-begun s a = out
-    record { bounds = s .bounds; W = suc (s .W); R = s .R; C = s .C; last = s .last; dat = s .dat; comm = s .comm; cl = put a (newcomer s) same (s .cl) }
+unfoldable pub begunₛ : State → ℕ → Out (Answer Begun)
+begunₛ s a = out
+    record { bounds = s .bounds; W = suc (s .W); R = s .R; C = s .C; last = s .last; dat = s .dat; comm = s .comm; cl = putₛ a (newcomer s) same (s .cl) }
     (Answered (record { number = suc (s .W); snapshot = s .last }))
 
-unfoldable pub free : State → ℕ
-free s = s .bounds .rows - length (s .dat)
+unfoldable pub freeₛ : State → ℕ
+freeₛ s = s .bounds .rows - length (s .dat)
 
 -- a new state with its free figure
 abbrev pub figured : State → Out (Answer ℕ)
-figured s = out s (Answered (free s))
+figured s = out s (Answered (freeₛ s))
 
 unfoldable pub overwritten : State → ℕ → ℕ → Value → Out (Answer ℕ)
 overwritten s a x v = figured (withData s (replace (s .cl a .number) x v (s .dat)) (s .cl))
 
-unfoldable pub added : State → ℕ → ℕ → Value → Out (Answer ℕ)
-added s a x v = figured (withData s (s .dat ++ (record { tag = s .cl a .number; cell = x; value = v } ∷ [])) (s .cl))
+unfoldable pub addedₛ : State → ℕ → ℕ → Value → Out (Answer ℕ)
+addedₛ s a x v = figured (withData s (s .dat ++ (record { tag = s .cl a .number; cell = x; value = v } ∷ [])) (s .cl))
 
 -- the rows without those of transaction t
 unfoldable pub without : ℕ → List DRow → List DRow
@@ -237,23 +237,23 @@ without t d = drop? (λ r. ℕ-discrete (r .tag) t) d
 
 -- closed: all its fields are zero, and it is on no list
 abbrev pub leave : State → ℕ → List DRow → State
-leave s a d = withData s d (put a closed (clearBoth a) (s .cl))
+leave s a d = withData s d (putₛ a closedₛ (clearBoth a) (s .cl))
 
-abbrev pub removed : State → ℕ → State
-removed s a = leave s a (without (s .cl a .number) (s .dat))
+abbrev pub removedₛ : State → ℕ → State
+removedₛ s a = leave s a (without (s .cl a .number) (s .dat))
 
 -- the steps of Advance
 abbrev pub step-to : State → ℕ → ℕ → Out (Answer Progress)
-step-to s a k = out (move s a (atStage (s .cl a) k)) (Answered (Stage k))
+step-to s a k = out (move s a (atStageₛ (s .cl a) k)) (Answered (Stage k))
 
 unfoldable pub takeR : State → ℕ → Out (Answer Progress)
 takeR s a = out
-    record { bounds = s .bounds; W = s .W; R = suc (s .R); C = s .C; last = s .last; dat = s .dat; comm = s .comm; cl = put a (withRequest (s .cl a) 2 (suc (s .R))) same (s .cl) }
+    record { bounds = s .bounds; W = s .W; R = suc (s .R); C = s .C; last = s .last; dat = s .dat; comm = s .comm; cl = putₛ a (withRequest (s .cl a) 2 (suc (s .R))) same (s .cl) }
     (Answered (Stage 2))
 
 unfoldable pub takeC : State → ℕ → Out (Answer Progress)
 takeC s a = out
-    record { bounds = s .bounds; W = s .W; R = s .R; C = suc (s .C); last = s .last; dat = s .dat; comm = s .comm; cl = put a (withCommit (s .cl a) 8 (suc (s .C))) same (s .cl) }
+    record { bounds = s .bounds; W = s .W; R = s .R; C = suc (s .C); last = s .last; dat = s .dat; comm = s .comm; cl = putₛ a (withCommit (s .cl a) 8 (suc (s .C))) same (s .cl) }
     (Answered (Stage 8))
 
 unfoldable pub listR : State → ℕ → Out (Answer Progress)
@@ -264,17 +264,17 @@ listC s a = out (move s a (withCwait (s .cl a) 10 (listing (cph s) {P = λ _. Un
 
 unfoldable pub lookR : State → ℕ → (ℕ → Bool) → Out (Answer Progress)
 lookR s a w =
-    ite (ℕ-discrete (count clients w) 0) (out (move s a (withRwait (s .cl a) 5 w)) (Answered (Stage 5)))
-    (out (move s a (withRwait (s .cl a) 4 w)) (Answered (Waiting (count clients w))))
+    ite (ℕ-discrete (listSize clients w) 0) (out (move s a (withRwait (s .cl a) 5 w)) (Answered (Stage 5)))
+    (out (move s a (withRwait (s .cl a) 4 w)) (Answered (Waiting (listSize clients w))))
 
 unfoldable pub lookC : State → ℕ → (ℕ → Bool) → Out (Answer Progress)
 lookC s a w =
-    ite (ℕ-discrete (count clients w) 0) (out (move s a (withCwait (s .cl a) 11 w)) (Answered (Stage 11)))
-    (out (move s a (withCwait (s .cl a) 10 w)) (Answered (Waiting (count clients w))))
+    ite (ℕ-discrete (listSize clients w) 0) (out (move s a (withCwait (s .cl a) 11 w)) (Answered (Stage 11)))
+    (out (move s a (withCwait (s .cl a) 10 w)) (Answered (Waiting (listSize clients w))))
 
-unfoldable pub checked : State → ℕ → Option (ℕ × DRow) → Out (Answer Progress)
-checked s a none = step-to s a 6
-checked s a (some w) = out (removed s a) (Answered (Conflict (w .0)))
+unfoldable pub checkedₛ : State → ℕ → Option (ℕ × DRow) → Out (Answer Progress)
+checkedₛ s a none = step-to s a 6
+checkedₛ s a (some w) = out (removedₛ s a) (Answered (Conflict (w .0)))
 
 unfoldable pub committed : State → ℕ → Out (Answer Progress)
 committed s a = out
@@ -286,17 +286,17 @@ committed s a = out
       last = s .cl a .commit;
       dat = s .dat;
       comm = s .comm ++ (record { number = s .cl a .commit; tag = s .cl a .number } ∷ []);
-      cl = put a (atStage (s .cl a) 12) same (s .cl);
+      cl = putₛ a (atStageₛ (s .cl a) 12) same (s .cl);
     }
     (Answered (Stage 12))
 
-unfoldable pub trimmed : State → Out (Answer ℕ)
-trimmed s =
-    let d : List DRow = drop? (passed? (s .dat) (s .comm) (low s)) (s .dat) in
+unfoldable pub trimmedₛ : State → Out (Answer ℕ)
+trimmedₛ s =
+    let d : List DRow = drop? (passed? (s .dat) (s .comm) (lowₛ s)) (s .dat) in
     out
     record { bounds = s .bounds; W = s .W; R = s .R; C = s .C; last = s .last; dat = d; comm = drop? (bare? d) (s .comm); cl = s .cl }
     (Answered (length (s .dat) - length d))
 
 -- a state after set-up
 unfoldable pub fresh : Bounds → ℕ → State
-fresh b w = record { bounds = b; W = w; R = 0; C = 0; last = 0; dat = []; comm = []; cl = λ _. closed }
+fresh b w = record { bounds = b; W = w; R = 0; C = 0; last = 0; dat = []; comm = []; cl = λ _. closedₛ }

@@ -11,26 +11,26 @@ use native.Mathlib.Decide.{ℕ-discrete}
 use native.Mathlib.Omega.{arith}
 use Rattle.history.proofs.Tickets.{Others, clear-other, clear-fewer}
 use Rattle.spec.specs.Right.{Bounds}
-use Rattle.history.proofs.Model.{DRow, Client, State, find, rphase, cphase, put, same, clearC, clearBoth}
-use Rattle.history.proofs.Plain.{restaged, Entry, PClient, Plain, NoClash, setP}
-use Rattle.history.proofs.Invariant.{Seen, view, lateness, One, Rel, Always, RQ, CQ, Inv}
+use Rattle.history.proofs.Model.{DRow, Client, State, findₛ, rphase, cphase, putₛ, same, clearC, clearBoth}
+use Rattle.history.proofs.Plain.{restaged, Entry, PClient, Plain, NoClashₚ, setP}
+use Rattle.history.proofs.Invariant.{Reader, readerOf, lateness, OneClient, Rel, Always, RQ, CQ, Inv}
 use Rattle.spec.specs.Table as table
 use borrow.Author.Tests.{eq-eqb, ne-eqb}
 
-pub put-at : (a : ℕ) (c : Client) (f : Client → Client) (cl : ℕ → Client) → put a c f cl a ≡ c
-unfolding put
+pub put-at : (a : ℕ) (c : Client) (f : Client → Client) (cl : ℕ → Client) → putₛ a c f cl a ≡ c
+unfolding putₛ
 put-at a c f cl = if-pos (ℕ-discrete a a) refl _ _
 
-pub put-off : (a : ℕ) (c : Client) (f : Client → Client) (cl : ℕ → Client) (b : ℕ) → b ≢ a → put a c f cl b ≡ f (cl b)
-unfolding put
+pub put-off : (a : ℕ) (c : Client) (f : Client → Client) (cl : ℕ → Client) (b : ℕ) → b ≢ a → putₛ a c f cl b ≡ f (cl b)
+unfolding putₛ
 put-off a c f cl b n = if-neg (ℕ-discrete b a) n _ _
 
 pub setP-at : (a : ℕ) (c : PClient) (cl : ℕ → PClient) → setP a c cl a ≡ c
-unfolding table.put
+unfolding table.override
 setP-at a c cl = rw (eq-eqb a a refl)
 
 pub setP-off : (a : ℕ) (c : PClient) (cl : ℕ → PClient) (b : ℕ) → b ≢ a → setP a c cl b ≡ cl b
-unfolding table.put
+unfolding table.override
 setP-off a c cl b n = rw (ne-eqb b a n)
 
 -- A property of every index, from that of one and of the others.
@@ -90,13 +90,13 @@ tame-both a = record {
 
 module _ (a : ℕ) (c : Client) (f : Client → Client) (tame : Tame a f) (cl : ℕ → Client) where
   -- A field of another client.
-  pub off : {X : Type 0} (g : Client → X) → ((d : Client) → g (f d) ≡ g d) → (b : ℕ) → b ≢ a → g (put a c f cl b) ≡ g (cl b)
+  pub off : {X : Type 0} (g : Client → X) → ((d : Client) → g (f d) ≡ g d) → (b : ℕ) → b ≢ a → g (putₛ a c f cl b) ≡ g (cl b)
   off g h b n = ap g (put-off a c f cl b n) ∙ h (cl b)
 
   pub others-R : (dat dat′ : List DRow) {R R′ : ℕ} → R ≤ R′
-      → ((b : ℕ) → 2 ≤ rphase (put a c f cl b .stage) → (x : ℕ) → IsSome (find (put a c f cl b .number) x dat′) → IsSome (find (cl b .number) x dat))
+      → ((b : ℕ) → 2 ≤ rphase (putₛ a c f cl b .stage) → (x : ℕ) → IsSome (findₛ (putₛ a c f cl b .number) x dat′) → IsSome (findₛ (cl b .number) x dat))
       → Others a (λ b. rphase (cl b .stage)) (λ b. cl b .request) (λ b. cl b .rwait) R (Rel dat cl)
-      (λ b. rphase (put a c f cl b .stage)) (λ b. put a c f cl b .request) (λ b. put a c f cl b .rwait) R′ (Rel dat′ (put a c f cl))
+      (λ b. rphase (putₛ a c f cl b .stage)) (λ b. putₛ a c f cl b .request) (λ b. putₛ a c f cl b .rwait) R′ (Rel dat′ (putₛ a c f cl))
   others-R dat dat′ h g = record {
     phase = off (λ d. rphase (d .stage)) (λ d. ap rphase (tame .stage d));
     number = off (λ d. d .request) (tame .request);
@@ -107,7 +107,7 @@ module _ (a : ℕ) (c : Client) (f : Client → Client) (tame : Tame a f) (cl : 
 
   pub others-C : {C C′ : ℕ} → C ≤ C′
       → Others a (λ b. cphase (cl b .stage)) (λ b. cl b .commit) (λ b. cl b .cwait) C Always
-      (λ b. cphase (put a c f cl b .stage)) (λ b. put a c f cl b .commit) (λ b. put a c f cl b .cwait) C′ Always
+      (λ b. cphase (putₛ a c f cl b .stage)) (λ b. putₛ a c f cl b .commit) (λ b. putₛ a c f cl b .cwait) C′ Always
   others-C h = record {
     phase = off (λ d. cphase (d .stage)) (λ d. ap cphase (tame .stage d));
     number = off (λ d. d .commit) (tame .commit);
@@ -117,22 +117,22 @@ module _ (a : ℕ) (c : Client) (f : Client → Client) (tame : Tame a f) (cl : 
   }
 
 -- What the rows and the book are held to of a client that the step leaves alone.
-abbrev pub seenOf : Client → PClient → Seen
+abbrev pub seenOf : Client → PClient → Reader
 seenOf c q = record { num = c .number; snap = c .snapshot; late = lateness (c .stage); since = q .since; copy = q .copy; writes = q .writes }
 
 pub seen-off : (a : ℕ) (c : Client) (f : Client → Client) → Tame a f → (cl : ℕ → Client) (q : PClient) (pcl : ℕ → PClient) (b : ℕ) → b ≢ a
-    → seenOf (put a c f cl b) (setP a q pcl b) ≡ seenOf (cl b) (pcl b)
+    → seenOf (putₛ a c f cl b) (setP a q pcl b) ≡ seenOf (cl b) (pcl b)
 seen-off a c f tame cl q pcl b n =
     rw (put-off a c f cl b n, setP-off a q pcl b n)
     (λ i. record { num = tame .number (cl b) i; snap = tame .snapshot (cl b) i; late = lateness (tame .stage (cl b) i); since = pcl b .since; copy = pcl b .copy; writes = pcl b .writes })
 
-pub seen-at : (a : ℕ) (c : Client) (f : Client → Client) (cl : ℕ → Client) (q : PClient) (pcl : ℕ → PClient) → seenOf (put a c f cl a) (setP a q pcl a) ≡ seenOf c q
+pub seen-at : (a : ℕ) (c : Client) (f : Client → Client) (cl : ℕ → Client) (q : PClient) (pcl : ℕ → PClient) → seenOf (putₛ a c f cl a) (setP a q pcl a) ≡ seenOf c q
 seen-at a c f cl q pcl = rw (put-at a c f cl, setP-at a q pcl)
 
 -- A client other than a, by the plain table and the store.
 pub one-off : (a : ℕ) (c : Client) (f : Client → Client) → Tame a f → (cl : ℕ → Client) (q : PClient) (pcl : ℕ → PClient) (last : ℕ) (book : List Entry) (b : ℕ) → b ≢ a
-    → One last book b (cl b .number) (cl b .stage) (cl b .commit) (pcl b)
-    → One last book b (put a c f cl b .number) (put a c f cl b .stage) (put a c f cl b .commit) (setP a q pcl b)
+    → OneClient last book b (cl b .number) (cl b .stage) (cl b .commit) (pcl b)
+    → OneClient last book b (putₛ a c f cl b .number) (putₛ a c f cl b .stage) (putₛ a c f cl b .commit) (setP a q pcl b)
 one-off a c f tame cl q pcl last book b n h = rw (put-off a c f cl b n, setP-off a q pcl b n, tame .number (cl b), tame .stage (cl b), tame .commit (cl b)) h
 
 abbrev pub rewound : Plain → ℕ → (ℕ → PClient) → Plain
@@ -145,27 +145,27 @@ module _ {bounds : Bounds} {s : State} {p : Plain} (inv : Inv bounds s p) (a : �
     (at : pcl a ≡ restaged (p .cl a) (c .stage) n) (else : (b : ℕ) → b ≢ a → pcl b ≡ p .cl b)
     (number : c .number ≡ s .cl a .number) (snapshot : c .snapshot ≡ s .cl a .snapshot) (late : lateness (c .stage) ≡ lateness (s .cl a .stage))
     (isopen : 1 ≤ s .cl a .number) where
-  same-view : view (stepped s R C (put a c f (s .cl))) (rewound p m pcl) ≡ view s p
-  same-view = fun-ext (each a (λ b. view (stepped s R C (put a c f (s .cl))) (rewound p m pcl) b ≡ view s p b) this that)
+  same-view : readerOf (stepped s R C (putₛ a c f (s .cl))) (rewound p m pcl) ≡ readerOf s p
+  same-view = fun-ext (each a (λ b. readerOf (stepped s R C (putₛ a c f (s .cl))) (rewound p m pcl) b ≡ readerOf s p b) this that)
     where
-      this : view (stepped s R C (put a c f (s .cl))) (rewound p m pcl) a ≡ view s p a
+      this : readerOf (stepped s R C (putₛ a c f (s .cl))) (rewound p m pcl) a ≡ readerOf s p a
       this = rw (put-at a c f (s .cl), at) (λ i. record { num = number i; snap = snapshot i; late = late i; since = p .cl a .since; copy = p .cl a .copy; writes = p .cl a .writes })
 
-      that : (b : ℕ) → b ≢ a → view (stepped s R C (put a c f (s .cl))) (rewound p m pcl) b ≡ view s p b
+      that : (b : ℕ) → b ≢ a → readerOf (stepped s R C (putₛ a c f (s .cl))) (rewound p m pcl) b ≡ readerOf s p b
       that b n = rw (put-off a c f (s .cl) b n, else b n)
           (λ i. record { num = tame .number (s .cl b) i; snap = tame .snapshot (s .cl b) i; late = lateness (tame .stage (s .cl b) i); since = p .cl b .since; copy = p .cl b .copy; writes = p .cl b .writes })
 
-  pub moves : s .C ≤ C → RQ (stepped s R C (put a c f (s .cl))) → CQ (stepped s R C (put a c f (s .cl)))
+  pub moves : s .C ≤ C → RQ (stepped s R C (putₛ a c f (s .cl))) → CQ (stepped s R C (putₛ a c f (s .cl)))
       → (8 ≤ c .stage → n ≡ c .commit)
       → (8 ≤ c .stage → c .stage ≤ 11 → s .last < c .commit)
       → (12 ≤ c .stage → (e : Entry) × In e (p .book) × (e .number ≡ c .commit))
-      → (6 ≤ c .stage → c .stage ≤ 11 → NoClash p a)
-      → Inv bounds (stepped s R C (put a c f (s .cl))) (rewound p m pcl)
+      → (6 ≤ c .stage → c .stage ≤ 11 → NoClashₚ p a)
+      → Inv bounds (stepped s R C (putₛ a c f (s .cl))) (rewound p m pcl)
   moves ctr rq cq numbered ahead in-book fresh = record {
     same-bounds = inv .same-bounds;
     counted = counted;
     last-le = omega (arith, inv .last-le);
-    one = each a (λ b. One (s .last) (p .book) b (put a c f (s .cl) b .number) (put a c f (s .cl) b .stage) (put a c f (s .cl) b .commit) (pcl b))
+    one = each a (λ b. OneClient (s .last) (p .book) b (putₛ a c f (s .cl) b .number) (putₛ a c f (s .cl) b .stage) (putₛ a c f (s .cl) b .commit) (pcl b))
         (rw (put-at a c f (s .cl), at, number) record {
           on-stage = refl;
           live = inv .one a .live;

@@ -12,17 +12,17 @@ use Rattle.spec.specs.declared.Progress.{Progress}
 use Rattle.spec.specs.Answers.{Answer}
 use Rattle.spec.specs.Calls.{top}
 use Rattle.spec.specs.Run.{Call}
-use Rattle.spec.specs.Table.{Told}
+use Rattle.spec.specs.Table.{Observed}
 use Rattle.spec.specs.Right.{Bounds, ReadRefusal, numberAfter}
 use Rattle.history.proofs.Lists.{in-nil, ite-elim, none-some, first}
-use Rattle.history.proofs.Tickets.{idle-queue, look, count}
-use Rattle.history.proofs.Model.{DRow, State, Out, rph, cph, begun, overwritten, added, trimmed, takeR, takeC, listR, listC, lookR, lookC, checked, committed, closed, numOf, rphase, fresh}
-use Rattle.history.proofs.Plain.{Plain, Six, plain, onBegin, onWrite, onAbandon, onAdvance, onProgress, empty, none-yet, lastOf}
-use Rattle.history.proofs.Invariant.{Inv, whole}
-use Rattle.history.proofs.Entries.{write-added, write-replaced}
+use Rattle.history.proofs.Tickets.{idle-queue, look, listSize}
+use Rattle.history.proofs.Model.{DRow, State, Out, rph, cph, begunₛ, overwritten, addedₛ, trimmedₛ, takeR, takeC, listR, listC, lookR, lookC, checkedₛ, committed, closedₛ, numOf, rphase, fresh}
+use Rattle.history.proofs.Plain.{Plain, Six, updateₚ, onBeginₚ, onWriteₚ, onAbandonₚ, onAdvanceₚ, onProgressₚ, emptyₚ, none-yet, lastOfₚ}
+use Rattle.history.proofs.Invariant.{Inv, valuesOf}
+use Rattle.history.proofs.Booked.{write-added, write-replaced}
 use Rattle.history.proofs.Arms.{Good, arm0, arm1, arm2, arm3, arm4, arm6, arm7, arm8, arm9, arm10, arm12, cph-in}
 use Rattle.history.proofs.Deeds.{begin-good, read-good, write-refused, write-good, abandon-good, arm0-ends, arm5, arm11, arm13, trim-good}
-use Rattle.history.proofs.Took.{Took, no-begin, no-read, no-write, no-advance, no-abandon, begins, reads, replaces, adds, at0, ends0, at1, at2, at3, at4, at5, at6, at7, at8, at9, at10, at11, at12, at13, abandons, trims, frees}
+use Rattle.history.proofs.Transition.{Transition, no-begin, no-read, no-write, no-advance, no-abandon, begins, reads, replaces, adds, at0, ends0, at1, at2, at3, at4, at5, at6, at7, at8, at9, at10, at11, at12, at13, abandons, trims, frees}
 
 module _ {bounds : Bounds} {s : State} {p : Plain} (inv : Inv bounds s p) where
   -- the refusal 6 says that nothing is open
@@ -33,8 +33,8 @@ module _ {bounds : Bounds} {s : State} {p : Plain} (inv : Inv bounds s p) where
   pub is-open : (a : ℕ) → p .cl a .live ≡ true → 1 ≤ s .cl a .number
   is-open a l = let z : s .cl a .number ≡ 0 → ⊥ = λ e. true≢false (sym l ∙ inv .one a .dead e) in omega (arith, z)
 
-  pub good : {q : Call} {o : Out (Answer (Told q))} → Took s q o → Good bounds s p q o
-  unfolding plain onBegin onWrite onAdvance onProgress onAbandon overwritten added
+  pub good : {q : Call} {o : Out (Answer (Observed q))} → Transition s q o → Good bounds s p q o
+  unfolding updateₚ onBeginₚ onWriteₚ onAdvanceₚ onProgressₚ onAbandonₚ overwritten addedₛ
   good (no-begin a r n) = (λ e. absurd (n e), inv)
   good (no-read a x r n) = (λ l. subst (λ (g : ℕ). ReadRefusal x g r) (sym (inv .one a .on-stage)) (n (is-open a l)), inv)
   good (no-write a x v r n) = (λ l. write-refused inv a x v r (is-open a l) (n (is-open a l)), inv)
@@ -69,14 +69,14 @@ pub record Numbered (w W : ℕ) : Type 0 where
   pub issued : w ≤ W
   pub within : W ≤ top
 
-check-W : (s : State) (a w : ℕ) (o : Option (ℕ × DRow)) → Numbered w (s .W) → Numbered w (checked s a o .state .W)
-unfolding checked
+check-W : (s : State) (a w : ℕ) (o : Option (ℕ × DRow)) → Numbered w (s .W) → Numbered w (checkedₛ s a o .state .W)
+unfolding checkedₛ
 check-W s a w none n = n
 check-W s a w (some x) n = n
 
 module _ {s : State} {w : ℕ} (n : Numbered w (s .W)) where
-  pub numbered : {q : Call} {o : Out (Answer (Told q))} → Took s q o → Numbered (numberAfter q (o .answer) w) (o .state .W)
-  unfolding begun overwritten added trimmed takeR takeC listR listC lookR lookC committed
+  pub numbered : {q : Call} {o : Out (Answer (Observed q))} → Transition s q o → Numbered (numberAfter q (o .answer) w) (o .state .W)
+  unfolding begunₛ overwritten addedₛ trimmedₛ takeR takeC listR listC lookR lookC committed
   numbered (no-begin a r k) = n
   numbered (no-read a x r k) = n
   numbered (no-write a x v r k) = n
@@ -92,14 +92,14 @@ module _ {s : State} {w : ℕ} (n : Numbered w (s .W)) where
   numbered (at2 a h o e) = n
   numbered (at3 a h o e) = n
   numbered (at4 a h o e) =
-      ite-elim (λ (x : Out (Answer Progress)). Numbered w (x .state .W)) (ℕ-discrete (count clients (look (rph s) (λ b. s .cl b .request) a (s .cl a .rwait))) 0) (λ _. n) (λ _. n)
+      ite-elim (λ (x : Out (Answer Progress)). Numbered w (x .state .W)) (ℕ-discrete (listSize clients (look (rph s) (λ b. s .cl b .request) a (s .cl a .rwait))) 0) (λ _. n) (λ _. n)
   numbered (at5 a h o e) = check-W s a w _ n
   numbered (at6 a h o e) = n
   numbered (at7 a h o e) = n
   numbered (at8 a h o e) = n
   numbered (at9 a h o e) = n
   numbered (at10 a h o e) =
-      ite-elim (λ (x : Out (Answer Progress)). Numbered w (x .state .W)) (ℕ-discrete (count clients (look (cph s) (λ b. s .cl b .commit) a (s .cl a .cwait))) 0) (λ _. n) (λ _. n)
+      ite-elim (λ (x : Out (Answer Progress)). Numbered w (x .state .W)) (ℕ-discrete (listSize clients (look (cph s) (λ b. s .cl b .commit) a (s .cl a .cwait))) 0) (λ _. n) (λ _. n)
   numbered (at11 a h o e) = n
   numbered (at12 a h o e) = n
   numbered (at13 a h o e) = n
@@ -109,8 +109,8 @@ module _ {s : State} {w : ℕ} (n : Numbered w (s .W)) where
 
 -- ---- set-up
 
-pub starts : (bounds : Bounds) (w : ℕ) → Inv bounds (fresh bounds w) empty
-unfolding fresh empty closed none-yet lastOf whole numOf first rphase
+pub starts : (bounds : Bounds) (w : ℕ) → Inv bounds (fresh bounds w) emptyₚ
+unfolding fresh emptyₚ closedₛ none-yet lastOfₚ valuesOf numOf first rphase
 starts bounds w = record {
   same-bounds = refl;
   counted = refl;

@@ -11,21 +11,21 @@ use native.Mathlib.Decide.{ℕ-discrete, decLe}
 use native.Mathlib.Omega.{arith}
 use Rattle.spec.specs.Set.{clients}
 use Rattle.spec.specs.Image.{Image}
-use Rattle.history.proofs.Tickets.{look, look-strikes, count, count-zero}
+use Rattle.history.proofs.Tickets.{look, look-strikes, listSize, count-zero}
 use Rattle.history.proofs.Model.{rphase, cphase}
 use Rattle.history.proofs.View.{view}
-use Rattle.history.proofs.Effects.{Side, requests, commits, out-of-commits, phases}
+use Rattle.history.proofs.Effects.{Side, requestSide, commitSide, out-of-commits, phases}
 use Rattle.history.proofs.Changes.{goes-up, goes-out, stays-R, stays-C}
 use Rattle.history.proofs.Grown.{next, client, Grown, inv, at-most-13, does, gets, same-after}
-use Rattle.history.proofs.AfterRounds.{After, Stable, Hit, stays, andThen, so, both, one-round}
-use Rattle.history.proofs.Drain.{phase, number, list, counter, Line, Holds, Far, Gone, counts, held, gone-stable, ahead-less, cost-is, drains}
+use Rattle.history.proofs.AfterRounds.{Following, Stable, Hit, stays, andThen, so, both, one-round}
+use Rattle.history.proofs.Drain.{phase, ticket, list, counter, Line, HasNumber, Far, Gone, counts, held, gone-stable, ahead-less, cost-is, drains}
 
 -- ---- the queues as lines
 
 -- a look with every listed number noted and larger leaves nobody on the list
-nobody-left : (q : Side) (s : Image) (b : ℕ) → ((x : ℕ) → list q s b x ≡ true → (3 ≤ phase q s x) × (number q s b < number q s x))
-    → count clients (look (phase q s) (number q s) b (list q s b)) ≡ 0
-nobody-left q s b h = count-zero clients _ (λ x. look-strikes (phase q s) (number q s) b (list q s b) x (h x))
+nobody-left : (q : Side) (s : Image) (b : ℕ) → ((x : ℕ) → list q s b x ≡ true → (3 ≤ phase q s x) × (ticket q s b < ticket q s x))
+    → listSize clients (look (phase q s) (ticket q s) b (list q s b)) ≡ 0
+nobody-left q s b h = count-zero clients _ (λ x. look-strikes (phase q s) (ticket q s) b (list q s b) x (h x))
 
 in-R : (k : ℕ) → 1 ≤ rphase k → 1 ≤ k
 unfolding rphase
@@ -34,7 +34,7 @@ in-R k h = omega arith
 in-C : (k : ℕ) → 1 ≤ cphase k → (7 ≤ k) × (k ≤ 12) × (cphase k ≡ min (k - 6) 5)
 in-C k h = elim (phases k) [ inl x ↦ (omega (arith, x .1), x .0, x .1) | inr x ↦ absurd (omega (arith, x .1)) ]
 
-line-R : (n : ℕ) → Line n requests
+line-R : (n : ℕ) → Line n requestSide
 unfolding rphase
 line-R n = record {
   tick = λ s c g. does s g c .tick-R;
@@ -51,7 +51,7 @@ line-R n = record {
   passes = λ s c g b d e f. elim (gets s g c b d (omega arith)) [
     | goes-up i l ↦ inl (omega arith)
     | goes-out i ↦ inr (omega arith)
-    | stays-R i z ↦ absurd (z (nobody-left requests s b f))
+    | stays-R i z ↦ absurd (z (nobody-left requestSide s b f))
     | stays-C i z ↦ absurd (omega arith)
   ];
 }
@@ -60,7 +60,7 @@ line-R n = record {
 up-C : (j k : ℕ) → k ≡ suc j → 1 ≤ cphase j → cphase j ≤ 4 → cphase k ≡ suc (cphase j)
 up-C j k e h l = let z = in-C j h in elim (phases k) [ inl x ↦ omega (arith, x .1, z .2) | inr x ↦ absurd (omega (arith, x .0, z .2)) ]
 
-line-C : (n : ℕ) → Line n commits
+line-C : (n : ℕ) → Line n commitSide
 line-C n = record {
   tick = λ s c g. does s g c .tick-C;
   bound = λ s g. inv s g .cq .bound;
@@ -77,7 +77,7 @@ line-C n = record {
     | goes-up i l ↦ inl (omega (arith, up-C (client s b .stage) (client (next s c) b .stage) i (omega arith) (omega arith)))
     | goes-out i ↦ inr (out-of-commits (client (next s c) b .stage) i)
     | stays-R i y ↦ absurd (omega (arith, z .0))
-    | stays-C i y ↦ absurd (y (nobody-left commits s b f))
+    | stays-C i y ↦ absurd (y (nobody-left commitSide s b f))
   ];
 }
 
@@ -85,7 +85,7 @@ line-C n = record {
 
 -- b has come as far as stage k, if it holds number m of the queue still
 abbrev Come : Side → ℕ → ℕ → ℕ → Image → Type 0
-Come q b m k s = (m ≤ counter q s) × (Holds q b m s → k ≤ client s b .stage)
+Come q b m k s = (m ≤ counter q s) × (HasNumber q b m s → k ≤ client s b .stage)
 
 module _ {n : ℕ} {q : Side} (line : Line n q) (above : (k : ℕ) → 2 ≤ q .phase k → 2 ≤ k) where
   come-stable : (b m k : ℕ) → Stable n (Come q b m k)
@@ -95,7 +95,7 @@ module _ {n : ℕ} {q : Side} (line : Line n q) (above : (k : ℕ) → 2 ≤ q .
   )
 
   -- a stage at which nobody waits takes a round
-  come-up : (b m k : ℕ) → k ≢ 4 → k ≢ 10 → (s : Image) → Grown n s → Come q b m k s → After n 1 (Come q b m (suc k)) s
+  come-up : (b m k : ℕ) → k ≢ 4 → k ≢ 10 → (s : Image) → Grown n s → Come q b m k s → Following n 1 (Come q b m (suc k)) s
   come-up b m k n4 n10 s g x =
       by-cases (decLe 2 (phase q s b))
       (λ h. one-round b (come-stable b m k) (come-stable b m (suc k)) hit s g x (line .within s g b (omega arith)))
@@ -126,12 +126,12 @@ above-C : (k : ℕ) → 2 ≤ cphase k → 2 ≤ k
 above-C k h = omega (arith, in-C k (omega arith) .0)
 
 -- who holds a number in a line of at most n is gone when all numbers up to its own have drained
-module _ {n : ℕ} {q : Side} (line : Line n q) (ex : ℕ) (leaves : (s : Image) → Grown n s → (b m : ℕ) → Far q b m 5 s → After n ex (Gone q b m) s) where
-  drained : (s : Image) → Grown n s → (b : ℕ) → 2 ≤ phase q s b → After n (4 + n * suc ex) (Gone q b (number q s b)) s
+module _ {n : ℕ} {q : Side} (line : Line n q) (ex : ℕ) (leaves : (s : Image) → Grown n s → (b m : ℕ) → Far q b m 5 s → Following n ex (Gone q b m) s) where
+  drained : (s : Image) → Grown n s → (b : ℕ) → 2 ≤ phase q s b → Following n (4 + n * suc ex) (Gone q b (ticket q s b)) s
   drained s g b h =
-      let m : ℕ = number q s b in
+      let m : ℕ = ticket q s b in
       let l = ahead-less line s g b m (h, refl) in
-      subst (λ (j : ℕ). After n j (Gone q b m) s) (cost-is line ex (n - 1) ∙ rounds (omega arith))
+      subst (λ (j : ℕ). Following n j (Gone q b m) s) (cost-is line ex (n - 1) ∙ rounds (omega arith))
       (drains line ex leaves (n - 1) s g b m (line .bound s g b h) (omega arith))
     where
       rounds : suc (n - 1) ≡ n → 4 + suc (n - 1) * suc ex ≡ 4 + n * suc ex
@@ -139,7 +139,7 @@ module _ {n : ℕ} {q : Side} (line : Line n q) (ex : ℕ) (leaves : (s : Image)
 
 module _ (n : ℕ) where
   -- from stage 11 two rounds lead out of the commit queue
-  leaves-C : (s : Image) → Grown n s → (b m : ℕ) → Far commits b m 5 s → After n 2 (Gone commits b m) s
+  leaves-C : (s : Image) → Grown n s → (b m : ℕ) → Far commitSide b m 5 s → Following n 2 (Gone commitSide b m) s
   leaves-C s g b m x =
       so (gone-stable (line-C n) b m) 2 s g
       (andThen 1 1 2 refl s g
@@ -150,7 +150,7 @@ module _ (n : ℕ) where
 
   -- the holder of request number m has commit number k
   abbrev Bound : ℕ → ℕ → ℕ → Image → Type 0
-  Bound b m k s = (m ≤ view s .R) × (Holds requests b m s → (8 ≤ client s b .stage) × (client s b .commit ≡ k))
+  Bound b m k s = (m ≤ view s .R) × (HasNumber requestSide b m s → (8 ≤ client s b .stage) × (client s b .commit ≡ k))
 
   bound-stable : (b m k : ℕ) → Stable n (Bound b m k)
   bound-stable b m k s c g o x = (
@@ -164,9 +164,9 @@ module _ (n : ℕ) where
   in-commits k h l = elim (phases k) [ inl z ↦ omega (arith, z .1) | inr z ↦ absurd (omega (arith, z .0)) ]
 
   -- the commit queue: from stage 8 to stage 13
-  through : (b m : ℕ) (s : Image) → Grown n s → Come requests b m 8 s → After n (4 + n * 3) (Come requests b m 13) s
+  through : (b m : ℕ) (s : Image) → Grown n s → Come requestSide b m 8 s → Following n (4 + n * 3) (Come requestSide b m 13) s
   through b m s g x =
-      by-cases (Dec·and (Dec·and (decLe 2 (phase requests s b)) (ℕ-discrete (number requests s b) m)) (decLe (client s b .stage) 12))
+      by-cases (Dec·and (Dec·and (decLe 2 (phase requestSide s b)) (ℕ-discrete (ticket requestSide s b) m)) (decLe (client s b .stage) 12))
       (λ h. let y = x .1 (h .0) in
       so (come-stable (line-R n) above-R b m 13) (4 + n * 3) s g
       (both (4 + n * 3) s
@@ -181,7 +181,7 @@ module _ (n : ℕ) where
       (x .0, λ y. by-cases (decLe (client s b .stage) 12) (λ l. absurd (h (y, l))) (λ l. omega arith)))
 
   -- from stage 5 to the end
-  leaves-R : (s : Image) → Grown n s → (b m : ℕ) → Far requests b m 5 s → After n (3 * n + 8) (Gone requests b m) s
+  leaves-R : (s : Image) → Grown n s → (b m : ℕ) → Far requestSide b m 5 s → Following n (3 * n + 8) (Gone requestSide b m) s
   unfolding rphase
   leaves-R s g b m x =
       so (gone-stable (line-R n) b m) (3 * n + 8) s g
@@ -195,8 +195,8 @@ module _ (n : ℕ) where
       (λ t i y. (y .0, λ h. omega (arith, y .1 h, at-most-13 t i b)))
 
   -- who has a request number holds it for at most 4 + n * (3 * n + 9) rounds more
-  pub requested : (s : Image) → Grown n s → (b : ℕ) → 2 ≤ phase requests s b
-      → After n (4 + n * (3 * n + 9)) (Gone requests b (number requests s b)) s
+  pub requested : (s : Image) → Grown n s → (b : ℕ) → 2 ≤ phase requestSide s b
+      → Following n (4 + n * (3 * n + 9)) (Gone requestSide b (ticket requestSide s b)) s
   requested s g b h =
-      subst (λ (j : ℕ). After n (4 + n * j) (Gone requests b (number requests s b)) s) (omega arith)
+      subst (λ (j : ℕ). Following n (4 + n * j) (Gone requestSide b (ticket requestSide s b)) s) (omega arith)
       (drained (line-R n) (3 * n + 8) leaves-R s g b h)

@@ -20,14 +20,14 @@ use Rattle.spec.specs.Look.{isOwn, find}
 use Rattle.spec.specs.Share.{any, cellsOf, conflict}
 use Rattle.spec.specs.declared.Progress.{Progress}
 use Rattle.spec.specs.Image.{Image, numberOf, snapshotOf, stageOf, isOpen}
-use Rattle.spec.specs.Calls.{Outcome, gives, refuse, cells, top, free, begun, begin, read, replaced, added, stored, write, abandon, trimmedTo, trim}
+use Rattle.spec.specs.Calls.{Outcome, replies, refuse, cells, top, free, begun, begin, read, replaced, added, stored, write, abandon, trimmedTo, trim}
 use Rattle.spec.specs.Steps.{goOn, finished, enter, takeRequest, listRequests, looked, lookRequests, checked, check, takeCommit, listCommits, lookCommits, addCommit, leaveCommits, leaveRequests, steps, noStep, advance}
 use Rattle.spec.specs.Answers.{Answer, Refused}
-use Rattle.spec.specs.Bytes.{seen, After, laidOut, fits, after}
-use Rattle.spec.specs.Run.{Call, Begin, Read, Write, Advance, Abandon, Trim, Free, Gives, refusals, Listed, perform, Memory, memoryOf, takes}
+use Rattle.spec.specs.Bytes.{decode, After, encode, fits, onBytes}
+use Rattle.spec.specs.Run.{Call, Begin, Read, Write, Advance, Abandon, Trim, Free, Result, refusals, Listed, perform, Memory, memoryOf, step}
 use Rattle.spec.specs.Right.{AllListed}
 use Rattle.history.proofs.Lists.{in-nil, in-case}
-use Rattle.history.proofs.Wellformed.{Each, each-at}
+use Rattle.history.proofs.Wellformed.{All, each-at}
 
 -- ---- a number of a list, by a test that is computed
 
@@ -49,7 +49,7 @@ record Lists {A : Type 0} (l : List ℕ) (o : Outcome A) : Type 0 where
   listed : Listed l (o .answer)
 
 module _ {A : Type 0} {l : List ℕ} where
-  answers : (i : Image) (a : A) → Lists l (gives i a)
+  answers : (i : Image) (a : A) → Lists l (replies i a)
   answers i a = record { listed = tt }
 
   refuses : (n : ℕ) (i : Image) → among n l ≡ true → Lists {A = A} l (refuse n i)
@@ -154,7 +154,7 @@ leaveRequests-listed k i = answers _ _
 noStep-listed : Step noStep
 noStep-listed k i = refuses 2 i refl
 
-steps-listed : Each Step steps
+steps-listed : All Step steps
 steps-listed = (
   enter-listed,
   (
@@ -213,15 +213,15 @@ listed-if : {A : Type 0} (l : List ℕ) (b : Bool) (x y : After A) → Listed l 
 listed-if l true x y p q = p
 listed-if l false x y p q = q
 
-pub refused-by-number : (q : Call) (m : Memory) → Listed (refusals q) (takes q m .answer)
-unfolding after laidOut
+pub refused-by-number : (q : Call) (m : Memory) → Listed (refusals q) (step q m .answer)
+unfolding onBytes encode
 refused-by-number q m =
     listed-if (refusals q) (fits (m .store) (length (m .dataBytes)) (length (m .commitBytes))) _ _
-    (perform-listed q (seen (m .store) (m .dataBytes) (m .commitBytes)) .listed) (unfit-listed q)
+    (perform-listed q (decode (m .store) (m .dataBytes) (m .commitBytes)) .listed) (unfit-listed q)
 
 pub all-listed : (qs : List Call) (m : Memory) → AllListed m qs
 all-listed [] m = tt
-all-listed (q ∷ qs) m = (refused-by-number q m, all-listed qs (memoryOf (takes q m)))
+all-listed (q ∷ qs) m = (refused-by-number q m, all-listed qs (memoryOf (step q m)))
 
 -- ---- document 02, 2: "Refusal 11 never occurs any more": on no record and no bytes
 
@@ -242,7 +242,7 @@ no-11 (Abandon k) = refl
 no-11 Trim = refl
 no-11 Free = refl
 
-pub never-11 : (q : Call) (m : Memory) → takes q m .answer ≢ Refused 11
+pub never-11 : (q : Call) (m : Memory) → step q m .answer ≢ Refused 11
 never-11 q m e =
-    let i : In 11 (refusals q) = subst (λ (a : Answer (Gives q)). Listed (refusals q) a) e (refused-by-number q m) in
+    let i : In 11 (refusals q) = subst (λ (a : Answer (Result q)). Listed (refusals q) a) e (refused-by-number q m) in
     false≢true (sym (no-11 q) ∙ list-in 11 (refusals q) i)

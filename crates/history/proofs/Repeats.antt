@@ -12,7 +12,7 @@ use native.Mathlib.Omega.{arith}
 use Rattle.spec.specs.Answers.{Answer, Answered, Refused}
 use Rattle.spec.specs.Calls.{cells}
 use Rattle.spec.specs.Run.{Call, Read, Memory}
-use Rattle.spec.specs.Table.{Value, Commit, Open, Table, orElse, tell}
+use Rattle.spec.specs.Table.{Value, Commit, Open, Table, orElse, update}
 use Rattle.spec.specs.Right.{Bounds, RightRead, RightRun}
 use Rattle.history.proofs.Lists.{same-some}
 use Rattle.history.specs.Demand.{GoesOn, Waits, Besides, Steady, Unbroken}
@@ -24,8 +24,8 @@ shown x o = orElse (o .writes x) (o .copy x)
 
 -- an answered read, and what is right of it
 read-holds : (k x : ℕ) (u : Option Value) (Q : Open → List Commit → Type 0) (t : Table)
-    → ((o : Open) → u ≡ shown x o → o .stage ≤ 11 → x < cells → Q o (t .book)) → RightRead t k x (Answered u) → HoldsIn k Q (tell (Read k x) (Answered u) t)
-unfolding tell
+    → ((o : Open) → u ≡ shown x o → o .stage ≤ 11 → x < cells → Q o (t .book)) → RightRead t k x (Answered u) → HoldsIn k Q (update (Read k x) (Answered u) t)
+unfolding update
 read-holds k x u Q t first s = (s .0, s .1, first (s .0) (s .2) (s .3) (s .4))
 
 -- ---- two answered reads agree

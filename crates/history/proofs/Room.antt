@@ -10,17 +10,17 @@ use native.Mathlib.Decide.{ℕ-discrete}
 use native.Mathlib.Omega.{arith}
 use lib.ListN.{length}
 use Rattle.history.proofs.Lists.{in-nil, in-case, in-one, in-left, append-case, any?, drop?, drop-in, in-drop, length-drop?, ite-elim, option-case, none-some, first-none}
-use Rattle.history.proofs.Tickets.{look, count}
+use Rattle.history.proofs.Tickets.{look, listSize}
 use Rattle.spec.specs.Right.{Bounds}
-use Rattle.history.proofs.Model.{DRow, CRow, Client, closed, put, same, clearC, clearBoth, State, Out, rph, cph, smallest, checkKey, atStage, withRequest, withCommit, begun, overwritten, added, trimmed, without, takeR, takeC, listR, listC, lookR, lookC, checked, committed, fresh, numOf, numberAt, replace, valueAt, some?, Passed, passed?, bare?, low}
+use Rattle.history.proofs.Model.{DRow, CRow, Client, closedₛ, putₛ, same, clearC, clearBoth, State, Out, rph, cph, smallestₛ, checkKey, atStageₛ, withRequest, withCommit, begunₛ, overwritten, addedₛ, trimmedₛ, without, takeR, takeC, listR, listC, lookR, lookC, checkedₛ, committed, fresh, numOf, numberAt, replace, valueAtₛ, some?, Passed, passed?, bare?, lowₛ}
 use Rattle.history.proofs.Plain.{Plain}
 use Rattle.history.proofs.Invariant.{Inv, lateness}
 use Rattle.history.proofs.Moves.{Tame, tame-same, tame-C, tame-both, put-at, put-off, each}
-use Rattle.history.proofs.Took.{HasRow, Took, no-begin, no-read, no-write, no-advance, no-abandon, begins, reads, replaces, adds, at0, ends0, at1, at2, at3, at4, at5, at6, at7, at8, at9, at10, at11, at12, at13, abandons, trims, frees}
+use Rattle.history.proofs.Transition.{HasRow, Transition, no-begin, no-read, no-write, no-advance, no-abandon, begins, reads, replaces, adds, at0, ends0, at1, at2, at3, at4, at5, at6, at7, at8, at9, at10, at11, at12, at13, abandons, trims, frees}
 use Rattle.spec.specs.Answers.{Answer}
 use Rattle.spec.specs.declared.Progress.{Progress}
 use Rattle.spec.specs.Run.{Call}
-use Rattle.spec.specs.Table.{Value, Told}
+use Rattle.spec.specs.Table.{Value, Observed}
 use Rattle.spec.specs.Set.{clients}
 
 abbrev pub Distinct : List CRow → Type 0
@@ -69,7 +69,7 @@ replace-row : (u x : ℕ) (v : Value) (t : ℕ) (d : List DRow) (r : DRow) → I
 unfolding replace
 replace-row u x v t [] r i e = absurd (in-nil i)
 replace-row u x v t (q ∷ l) r i e =
-    ite-elim (λ (L : List DRow). HasRow t L) (some? (valueAt u x q))
+    ite-elim (λ (L : List DRow). HasRow t L) (some? (valueAtₛ u x q))
     (λ _. in-case i (λ p. (_, here refl, ap (λ (y : DRow). y .tag) (sym p) ∙ e)) (λ j. (r, there j, e)))
     (λ _. in-case i (λ p. (q, here refl, ap (λ (y : DRow). y .tag) (sym p) ∙ e)) (λ j. let y = replace-row u x v t l r j e in (y .0, there (y .1), y .2)))
 
@@ -93,40 +93,40 @@ Room-state s = Room (s .dat) (s .comm) (s .cl)
 
 module _ {bounds : Bounds} {s : State} {p : Plain} (inv : Inv bounds s p) (u : Room-state s) where
   -- Client a becomes d, no row changes.
-  moved : (a : ℕ) (d : Client) (f : Client → Client) → Tame a f → (1 ≤ d .number → 1 ≤ d .stage → d .stage ≤ 11 → HasRow (d .number) (s .dat)) → Room (s .dat) (s .comm) (put a d f (s .cl))
+  moved : (a : ℕ) (d : Client) (f : Client → Client) → Tame a f → (1 ≤ d .number → 1 ≤ d .stage → d .stage ≤ 11 → HasRow (d .number) (s .dat)) → Room (s .dat) (s .comm) (putₛ a d f (s .cl))
   moved a d f m h = record {
     distinct = u .distinct;
     backed = u .backed;
-    own = each a (λ b. 1 ≤ put a d f (s .cl) b .number → 1 ≤ put a d f (s .cl) b .stage → put a d f (s .cl) b .stage ≤ 11 → HasRow (put a d f (s .cl) b .number) (s .dat))
+    own = each a (λ b. 1 ≤ putₛ a d f (s .cl) b .number → 1 ≤ putₛ a d f (s .cl) b .stage → putₛ a d f (s .cl) b .stage ≤ 11 → HasRow (putₛ a d f (s .cl) b .number) (s .dat))
         (rw (put-at a d f (s .cl)) h) (λ b n. rw (put-off a d f (s .cl) b n, m .number (s .cl b), m .stage (s .cl b)) (u .own b));
   }
 
   -- It stays open at a stage from 1 to 11 only if it was.
-  later : (a : ℕ) (d : Client) (f : Client → Client) → Tame a f → d .number ≡ s .cl a .number → 1 ≤ s .cl a .number → 1 ≤ s .cl a .stage → s .cl a .stage ≤ d .stage → Room (s .dat) (s .comm) (put a d f (s .cl))
+  later : (a : ℕ) (d : Client) (f : Client → Client) → Tame a f → d .number ≡ s .cl a .number → 1 ≤ s .cl a .number → 1 ≤ s .cl a .stage → s .cl a .stage ≤ d .stage → Room (s .dat) (s .comm) (putₛ a d f (s .cl))
   later a d f m e o k l = moved a d f m (λ x y z. subst (λ (t : ℕ). HasRow t (s .dat)) (sym e) (u .own a o k (omega arith)))
 
-  shut : (a : ℕ) → Room (s .dat) (s .comm) (put a closed (clearBoth a) (s .cl))
-  unfolding closed
-  shut a = moved a closed (clearBoth a) (tame-both a) (λ x. absurd (omega arith))
+  shut : (a : ℕ) → Room (s .dat) (s .comm) (putₛ a closedₛ (clearBoth a) (s .cl))
+  unfolding closedₛ
+  shut a = moved a closedₛ (clearBoth a) (tame-both a) (λ x. absurd (omega arith))
 
   -- The tag of a client below stage 12 is not committed.
   not-committed : (a : ℕ) → 1 ≤ s .cl a .number → s .cl a .stage < 12 → numOf (s .cl a .number) (s .comm) ≡ none
   unfolding lateness
   not-committed a o h = inv .tab .mine a o .not-yet (omega arith)
 
-  gone : (a : ℕ) → 1 ≤ s .cl a .number → s .cl a .stage < 12 → Room (without (s .cl a .number) (s .dat)) (s .comm) (put a closed (clearBoth a) (s .cl))
-  unfolding closed
+  gone : (a : ℕ) → 1 ≤ s .cl a .number → s .cl a .stage < 12 → Room (without (s .cl a .number) (s .dat)) (s .comm) (putₛ a closedₛ (clearBoth a) (s .cl))
+  unfolding closedₛ
   gone a o h = record {
     distinct = u .distinct;
     backed = λ c i. keeps-row (c .tag) (s .cl a .number) (s .dat) (uncommitted (s .cl a .number) (s .comm) (not-committed a o h) c i) (u .backed c i);
-    own = each a (λ b. 1 ≤ put a closed (clearBoth a) (s .cl) b .number → 1 ≤ put a closed (clearBoth a) (s .cl) b .stage → put a closed (clearBoth a) (s .cl) b .stage ≤ 11 → HasRow (put a closed (clearBoth a) (s .cl) b .number) (without (s .cl a .number) (s .dat)))
-        (rw (put-at a closed (clearBoth a) (s .cl)) (λ x. absurd (omega arith)))
-        (λ b n. rw (put-off a closed (clearBoth a) (s .cl) b n) (λ x y z. keeps-row (s .cl b .number) (s .cl a .number) (s .dat) (inv .tab .apart b a n x) (u .own b x y z)));
+    own = each a (λ b. 1 ≤ putₛ a closedₛ (clearBoth a) (s .cl) b .number → 1 ≤ putₛ a closedₛ (clearBoth a) (s .cl) b .stage → putₛ a closedₛ (clearBoth a) (s .cl) b .stage ≤ 11 → HasRow (putₛ a closedₛ (clearBoth a) (s .cl) b .number) (without (s .cl a .number) (s .dat)))
+        (rw (put-at a closedₛ (clearBoth a) (s .cl)) (λ x. absurd (omega arith)))
+        (λ b n. rw (put-off a closedₛ (clearBoth a) (s .cl) b n) (λ x y z. keeps-row (s .cl b .number) (s .cl a .number) (s .dat) (inv .tab .apart b a n x) (u .own b x y z)));
   }
 
-  made : (a : ℕ) → 1 ≤ s .cl a .number → s .cl a .stage ≡ 11 → Room (s .dat) (s .comm ++ (record { number = s .cl a .commit; tag = s .cl a .number } ∷ [])) (put a (atStage (s .cl a) 12) same (s .cl))
+  made : (a : ℕ) → 1 ≤ s .cl a .number → s .cl a .stage ≡ 11 → Room (s .dat) (s .comm ++ (record { number = s .cl a .commit; tag = s .cl a .number } ∷ [])) (putₛ a (atStageₛ (s .cl a) 12) same (s .cl))
   made a o e =
-      let v = moved a (atStage (s .cl a) 12) same (tame-same a) (λ x y z. absurd (omega arith)) in
+      let v = moved a (atStageₛ (s .cl a) 12) same (tame-same a) (λ x y z. absurd (omega arith)) in
       record {
         distinct = distinct-append (s .comm) _ (u .distinct) (λ d i. uncommitted (s .cl a .number) (s .comm) (not-committed a o (omega arith)) d i);
         backed = λ c i. append-case (s .comm) i (u .backed c) (λ j. subst (λ (x : CRow). HasRow (x .tag) (s .dat)) (sym (in-one j)) (u .own a o (omega arith) (omega arith)));
@@ -134,23 +134,23 @@ module _ {bounds : Bounds} {s : State} {p : Plain} (inv : Inv bounds s p) (u : R
       }
 
   -- Trim.
-  kept-own : (t : ℕ) → numOf t (s .comm) ≡ none → HasRow t (s .dat) → HasRow t (drop? (passed? (s .dat) (s .comm) (low s)) (s .dat))
-  kept-own t e h = (h .0, in-drop (passed? (s .dat) (s .comm) (low s)) (s .dat) (h .0) (h .1) (passed-none (s .dat) (s .comm) (low s) (h .0) (ap (λ (x : ℕ). numOf x (s .comm)) (h .2) ∙ e)), h .2)
+  kept-own : (t : ℕ) → numOf t (s .comm) ≡ none → HasRow t (s .dat) → HasRow t (drop? (passed? (s .dat) (s .comm) (lowₛ s)) (s .dat))
+  kept-own t e h = (h .0, in-drop (passed? (s .dat) (s .comm) (lowₛ s)) (s .dat) (h .0) (h .1) (passed-none (s .dat) (s .comm) (lowₛ s) (h .0) (ap (λ (x : ℕ). numOf x (s .comm)) (h .2) ∙ e)), h .2)
 
   not-bare : (d : List DRow) (c : CRow) → ((HasRow (c .tag) d → ⊥) → ⊥) → HasRow (c .tag) d
   not-bare d c h = by-cases (any? (λ r. ℕ-discrete (r .tag) (c .tag)) d) (λ y. y) (λ n. absurd (h n))
 
-  trimmed-room : Room (drop? (passed? (s .dat) (s .comm) (low s)) (s .dat)) (drop? (bare? (drop? (passed? (s .dat) (s .comm) (low s)) (s .dat))) (s .comm)) (s .cl)
+  trimmed-room : Room (drop? (passed? (s .dat) (s .comm) (lowₛ s)) (s .dat)) (drop? (bare? (drop? (passed? (s .dat) (s .comm) (lowₛ s)) (s .dat))) (s .comm)) (s .cl)
   trimmed-room =
-      let d : List DRow = drop? (passed? (s .dat) (s .comm) (low s)) (s .dat) in
+      let d : List DRow = drop? (passed? (s .dat) (s .comm) (lowₛ s)) (s .dat) in
       record {
         distinct = distinct-drop (bare? d) (s .comm) (u .distinct);
         backed = λ c i. not-bare d c (drop-in (bare? d) (s .comm) c i .1);
         own = λ a x y z. kept-own (s .cl a .number) (not-committed a x (omega arith)) (u .own a x y z);
       }
 
-  pub stays : {c : Call} {x : Out (Answer (Told c))} → Took s c x → Room-state (x .state)
-  unfolding begun overwritten added trimmed takeR takeC listR listC lookR lookC checked committed
+  pub stays : {c : Call} {x : Out (Answer (Observed c))} → Transition s c x → Room-state (x .state)
+  unfolding begunₛ overwritten addedₛ trimmedₛ takeR takeC listR listC lookR lookC checkedₛ committed
   stays (no-begin a r n) = u
   stays (no-read a x r n) = u
   stays (no-write a x v r n) = u
@@ -168,26 +168,26 @@ module _ {bounds : Bounds} {s : State} {p : Plain} (inv : Inv bounds s p) (u : R
     backed = λ c i. let r = u .backed c i in (r .0, in-left _ (r .1), r .2);
     own = λ b y z w. let r = u .own b y z w in (r .0, in-left _ (r .1), r .2);
   }
-  stays (at0 a h op e k) = moved a (atStage (s .cl a) 1) same (tame-same a) (λ x y z. k)
+  stays (at0 a h op e k) = moved a (atStageₛ (s .cl a) 1) same (tame-same a) (λ x y z. k)
   stays (ends0 a h op e k) = shut a
   stays (at1 a h op e) = later a (withRequest (s .cl a) 2 (suc (s .R))) same (tame-same a) refl op (omega arith) (omega arith)
-  stays (at2 a h op e) = later a (atStage (s .cl a) 3) same (tame-same a) refl op (omega arith) (omega arith)
+  stays (at2 a h op e) = later a (atStageₛ (s .cl a) 3) same (tame-same a) refl op (omega arith) (omega arith)
   stays (at3 a h op e) = later a _ same (tame-same a) refl op (omega arith) (omega arith)
   stays (at4 a h op e) =
-      ite-elim (λ (x : Out (Answer Progress)). Room-state (x .state)) (ℕ-discrete (count clients (look (rph s) (λ b. s .cl b .request) a (s .cl a .rwait))) 0)
+      ite-elim (λ (x : Out (Answer Progress)). Room-state (x .state)) (ℕ-discrete (listSize clients (look (rph s) (λ b. s .cl b .request) a (s .cl a .rwait))) 0)
       (λ _. later a _ same (tame-same a) refl op (omega arith) (omega arith)) (λ _. later a _ same (tame-same a) refl op (omega arith) (omega arith))
   stays (at5 a h op e) =
-      option-case (smallest (checkKey (s .dat) (s .comm) (s .cl a .number) (s .cl a .snapshot)) (s .dat))
-      (λ q. rw q (later a (atStage (s .cl a) 6) same (tame-same a) refl op (omega arith) (omega arith))) (λ x q. rw q (gone a op (omega arith)))
-  stays (at6 a h op e) = later a (atStage (s .cl a) 7) same (tame-same a) refl op (omega arith) (omega arith)
+      option-case (smallestₛ (checkKey (s .dat) (s .comm) (s .cl a .number) (s .cl a .snapshot)) (s .dat))
+      (λ q. rw q (later a (atStageₛ (s .cl a) 6) same (tame-same a) refl op (omega arith) (omega arith))) (λ x q. rw q (gone a op (omega arith)))
+  stays (at6 a h op e) = later a (atStageₛ (s .cl a) 7) same (tame-same a) refl op (omega arith) (omega arith)
   stays (at7 a h op e) = later a (withCommit (s .cl a) 8 (suc (s .C))) same (tame-same a) refl op (omega arith) (omega arith)
-  stays (at8 a h op e) = later a (atStage (s .cl a) 9) same (tame-same a) refl op (omega arith) (omega arith)
+  stays (at8 a h op e) = later a (atStageₛ (s .cl a) 9) same (tame-same a) refl op (omega arith) (omega arith)
   stays (at9 a h op e) = later a _ same (tame-same a) refl op (omega arith) (omega arith)
   stays (at10 a h op e) =
-      ite-elim (λ (x : Out (Answer Progress)). Room-state (x .state)) (ℕ-discrete (count clients (look (cph s) (λ b. s .cl b .commit) a (s .cl a .cwait))) 0)
+      ite-elim (λ (x : Out (Answer Progress)). Room-state (x .state)) (ℕ-discrete (listSize clients (look (cph s) (λ b. s .cl b .commit) a (s .cl a .cwait))) 0)
       (λ _. later a _ same (tame-same a) refl op (omega arith) (omega arith)) (λ _. later a _ same (tame-same a) refl op (omega arith) (omega arith))
   stays (at11 a h op e) = made a op e
-  stays (at12 a h op e) = moved a (atStage (clearC a (s .cl a)) 13) (clearC a) (tame-C a) (λ x y z. absurd (omega arith))
+  stays (at12 a h op e) = moved a (atStageₛ (clearC a (s .cl a)) 13) (clearC a) (tame-C a) (λ x y z. absurd (omega arith))
   stays (at13 a h op e) = shut a
   stays (abandons a h op k) = gone a op k
   stays trims = trimmed-room
@@ -202,5 +202,5 @@ module _ {bounds : Bounds} {s : State} {p : Plain} (inv : Inv bounds s p) (u : R
       omega arith
 
 pub start-room : (b : Bounds) (w : ℕ) → Room-state (fresh b w)
-unfolding fresh closed
+unfolding fresh closedₛ
 start-room b w = record { distinct = tt; backed = λ c i. absurd (in-nil i); own = λ a x. absurd (omega arith) }

@@ -14,12 +14,12 @@ use Rattle.spec.specs.Set.{clients}
 use Rattle.spec.specs.Answers.{Answer}
 use Rattle.spec.specs.Image.{Image, empty}
 use Rattle.spec.specs.Bytes.{limitOf, accepts, setUp}
-use Rattle.spec.specs.Run.{Call, Advance, Memory, memoryOf, takes}
-use Rattle.spec.specs.Table.{Open, Table, blank, Told, tell}
-use Rattle.spec.specs.Right.{Bounds, tells}
+use Rattle.spec.specs.Run.{Call, Advance, Memory, memoryOf, step}
+use Rattle.spec.specs.Table.{Open, Table, blank, Observed, update}
+use Rattle.spec.specs.Right.{Bounds, observed}
 use Rattle.history.proofs.Lists.{none-some, same-some}
 use Rattle.spec.proofs.Ends.{accepted}
-use Rattle.history.proofs.Bridge.{whole, set-up-whole, unused, refused-memory, refused-call}
+use Rattle.history.proofs.Bridge.{encoded, set-up-whole, unused, refused-memory, refused-call}
 use Rattle.history.proofs.Bridge as bridge
 use Rattle.history.proofs.Model as m
 use Rattle.history.proofs.Model.{State}
@@ -28,11 +28,11 @@ use Rattle.history.proofs.Walk.{empty-view}
 use Rattle.history.proofs.Erase.{erase, erase-empty, openOf, live-some, some-live}
 use Rattle.history.proofs.AllCalls.{told-by, same-told, same-memory, fed, start-good, refused-tells}
 use Rattle.history.specs.Afterwards.{afterRun, tableAfter}
-use Rattle.history.specs.Rounds.{AllBelow, over, fateBy, first, fate, Queued, serves, served, Round, Rounds, limit, ClosedWithin, NobodyWaits, WhoeverCalls, inTurn, RoundsExist}
-use Rattle.history.proofs.Effects.{Listed, requests, commits}
+use Rattle.history.specs.Rounds.{AllBelow, isOver, fateBy, earlier, fate, Queued, serves, served, Round, Rounds, roundLimit, ClosedWithin, NobodyWaits, WhoeverCalls, inTurn, RoundsExist}
+use Rattle.history.proofs.Effects.{OnLists, requestSide, commitSide}
 use Rattle.history.proofs.Grown.{next, client, Grown, inv, is-open, is-below, at-most-13, grows, grows-table}
 use Rattle.history.proofs.AfterRounds.{run, runs, meets, AllRounds, AllNamed}
-use Rattle.history.proofs.Ending.{over-in-time, fated, ended}
+use Rattle.history.proofs.Ending.{over-in-time, fated, was-closed}
 
 -- ---- a list of rounds, and all its calls in one list
 
@@ -59,8 +59,8 @@ each-named n (r ∷ rs) h = let z = split n r (flatten rs) h in (z .0, each-name
 -- what a list of calls leaves
 record Followed (n : ℕ) (s : Image) (l : List Call) (t : Table) : Type 0 where
   pub grown : Grown n (run s l)
-  pub memory : afterRun l (whole s) ≡ whole (run s l)
-  pub table : tableAfter l (whole s) t ≡ erase (grown .table)
+  pub memory : afterRun l (encoded s) ≡ encoded (run s l)
+  pub table : tableAfter l (encoded s) t ≡ erase (grown .table)
 
 module _ {n : ℕ} where
   follow : (s : Image) (l : List Call) (g : Grown n s) → AllBelow n l → Followed n s l (erase (g .table))
@@ -71,23 +71,23 @@ module _ {n : ℕ} where
       record {
         grown = r .grown;
         memory = ap (afterRun l) e ∙ r .memory;
-        table = ap (λ (x : Memory). tableAfter l x (tell c (tells c (whole s)) (erase (g .table)))) e
-            ∙ ap (λ (x : Answer (Told c)). tableAfter l (whole (next s c)) (tell c x (erase (g .table)))) (same-told s (g .good .fine) c)
-            ∙ ap (tableAfter l (whole (next s c))) (fed (g .good) c ∙ ap erase (sym (grows-table s c g (o .0))))
+        table = ap (λ (x : Memory). tableAfter l x (update c (observed c (encoded s)) (erase (g .table)))) e
+            ∙ ap (λ (x : Answer (Observed c)). tableAfter l (encoded (next s c)) (update c x (erase (g .table)))) (same-told s (g .good .fine) c)
+            ∙ ap (tableAfter l (encoded (next s c))) (fed (g .good) c ∙ ap erase (sym (grows-table s c g (o .0))))
             ∙ r .table;
       }
 
-  fate-as : (b : ℕ) (s : Image) (l : List Call) → Grown n s → AllBelow n l → fate b (whole s) l ≡ fated b s l
+  fate-as : (b : ℕ) (s : Image) (l : List Call) → Grown n s → AllBelow n l → fate b (encoded s) l ≡ fated b s l
   fate-as b s [] g o = refl
   fate-as b s (c ∷ l) g o =
-      ap (λ (x : Answer (Told c)). first (fateBy b c x) (fate b (memoryOf (takes c (whole s))) l)) (same-told s (g .good .fine) c)
-      ∙ ap (λ (x : Memory). first (fateBy b c (told-by c s)) (fate b x l)) (same-memory s (g .good .fine) c)
-      ∙ ap (first (fateBy b c (told-by c s))) (fate-as b (next s c) l (grows s c g (o .0)) (o .1))
+      ap (λ (x : Answer (Observed c)). earlier (fateBy b c x) (fate b (memoryOf (step c (encoded s))) l)) (same-told s (g .good .fine) c)
+      ∙ ap (λ (x : Memory). earlier (fateBy b c (told-by c s)) (fate b x l)) (same-memory s (g .good .fine) c)
+      ∙ ap (earlier (fateBy b c (told-by c s))) (fate-as b (next s c) l (grows s c g (o .0)) (o .1))
 
-  served-as : (b : ℕ) (s : Image) (l : List Call) → Grown n s → AllBelow n l → served b (whole s) l ≡ meets b s l
+  served-as : (b : ℕ) (s : Image) (l : List Call) → Grown n s → AllBelow n l → served b (encoded s) l ≡ meets b s l
   served-as b s [] g o = refl
   served-as b s (c ∷ l) g o =
-      ap (λ (x : Answer (Told c)). serves b c x || served b (memoryOf (takes c (whole s))) l) (same-told s (g .good .fine) c)
+      ap (λ (x : Answer (Observed c)). serves b c x || served b (memoryOf (step c (encoded s))) l) (same-told s (g .good .fine) c)
       ∙ ap (λ (x : Memory). serves b c (told-by c s) || served b x l) (same-memory s (g .good .fine) c)
       ∙ ap (λ (y : Bool). serves b c (told-by c s) || y) (served-as b (next s c) l (grows s c g (o .0)) (o .1))
 
@@ -105,18 +105,18 @@ module _ {n : ℕ} where
       let e = ap (λ (o : Open). o .stage) (some-live (g .table .cl b) (q .0) (q .1) .1) in
       omega (arith, inv s g .one b .on-stage, e, q .2)
 
-  rounds-on : (s : Image) (rs : List (List Call)) (g : Grown n s) → AllNamed n rs → Rounds (whole s) (erase (g .table)) rs → AllRounds s rs
+  rounds-on : (s : Image) (rs : List (List Call)) (g : Grown n s) → AllNamed n rs → Rounds (encoded s) (erase (g .table)) rs → AllRounds s rs
   rounds-on s [] g o h = tt
   rounds-on s (r ∷ rs) g o h =
       let f = follow s r g (o .0) in
-      let x : Rounds (whole (run s r)) (tableAfter r (whole s) (erase (g .table))) rs =
-      subst (λ (x : Memory). Rounds x (tableAfter r (whole s) (erase (g .table))) rs) (f .memory) (h .1) in (
+      let x : Rounds (encoded (run s r)) (tableAfter r (encoded s) (erase (g .table))) rs =
+      subst (λ (x : Memory). Rounds x (tableAfter r (encoded s) (erase (g .table))) rs) (f .memory) (h .1) in (
         λ b k. sym (served-as b s r g (o .0)) ∙ h .0 b (queued s g b k),
-        rounds-on (run s r) rs (f .grown) (o .1) (subst (λ (t : Table). Rounds (whole (run s r)) t rs) (f .table) x),
+        rounds-on (run s r) rs (f .grown) (o .1) (subst (λ (t : Table). Rounds (encoded (run s r)) t rs) (f .table) x),
       )
 
   closed-within : (s : Image) (g : Grown n s) (rounds : List (List Call)) → AllBelow n (flatten rounds)
-      → ClosedWithin (limit n) (whole s) (erase (g .table)) rounds
+      → ClosedWithin (roundLimit n) (encoded s) (erase (g .table)) rounds
   closed-within s g rounds below rs long b q a =
       let h = in-queue s g b q in
       let t : ℕ = client s b .number in
@@ -125,17 +125,17 @@ module _ {n : ℕ} where
       let x = over-in-time n b t p (length rounds) long s g (inv s g .tab .mine b p .num-le, λ _. h) in
       let z = x .at rounds refl names (rounds-on s rounds g names rs) in
       let e = fate-as b s (flatten rounds) g below in
-      e ∙ ended b t s (flatten rounds) g below refl h
+      e ∙ was-closed b t s (flatten rounds) g below refl h
       (λ i. z .1 (ap (λ (u : Image). client u b .number) (sym (run-joined s rounds)) ∙ i)) (λ i. a (e ∙ i))
 
 -- ---- from set-up
 
-none-listed : (r : Bounds) (w : ℕ) → Listed requests (m.fresh r w .cl) × Listed commits (m.fresh r w .cl)
-unfolding m.fresh m.closed
+none-listed : (r : Bounds) (w : ℕ) → OnLists requestSide (m.fresh r w .cl) × OnLists commitSide (m.fresh r w .cl)
+unfolding m.fresh m.closedₛ
 none-listed r w = (λ b x h e. absurd (false≢true e), λ b x h e. absurd (false≢true e))
 
 none-open : (r : Bounds) (w b : ℕ) → m.fresh r w .cl b .number ≡ 0
-unfolding m.fresh m.closed
+unfolding m.fresh m.closedₛ
 none-open r w b = refl
 
 start : (n r l w : ℕ) → 1 ≤ r → r ≤ 1024 → w ≤ 4294967295 → Grown n (empty r l w)
@@ -146,20 +146,20 @@ start n r l w h k z =
     record {
       bounds = b;
       last = 0;
-      table = own.empty;
+      table = own.emptyₚ;
       good = start-good r l w h k z;
-      lists-R = subst (λ (s : State). Listed requests (s .cl)) (sym e) (o .0);
-      lists-C = subst (λ (s : State). Listed commits (s .cl)) (sym e) (o .1);
+      lists-R = subst (λ (s : State). OnLists requestSide (s .cl)) (sym e) (o .0);
+      lists-C = subst (λ (s : State). OnLists commitSide (s .cl)) (sym e) (o .1);
       named = λ k _. ap (λ (s : State). s .cl k .number) e ∙ none-open b w k;
     }
 
 -- after a refused set-up the plain table stays blank
 refused-table : (d c : List ℕ) (l : List Call) → tableAfter l (unused d c) blank ≡ blank
-unfolding tell
+unfolding update
 refused-table d c [] = refl
 refused-table d c (q ∷ l) =
-    ap (λ (x : Memory). tableAfter l x (tell q (tells q (unused d c)) blank)) (ap memoryOf (refused-call d c q))
-    ∙ ap (λ (x : Answer (Told q)). tableAfter l (unused d c) (tell q x blank)) (refused-tells d c q)
+    ap (λ (x : Memory). tableAfter l x (update q (observed q (unused d c)) blank)) (ap memoryOf (refused-call d c q))
+    ∙ ap (λ (x : Answer (Observed q)). tableAfter l (unused d c) (update q x blank)) (refused-tells d c q)
     ∙ refused-table d c l
 
 nobody-queued : (t : Table) (k : ℕ) → t ≡ blank → Queued t k → ⊥
@@ -168,7 +168,7 @@ nobody-queued t k e q = none-some refl (ap (λ (x : Table). x .clients k) (sym e
 
 -- what holds of record, buffers and table after the calls qs, if it holds of every grown image, and where nobody is at any stage
 module _ (d c : List ℕ) (w l : ℕ) (lw : w ≤ 4294967295) (qs : List Call) (n : ℕ) (below : AllBelow n qs) (X : Memory → Table → Type 0)
-    (grown : (s : Image) (g : Grown n s) → X (whole s) (erase (g .table))) (idle : (m : Memory) (t : Table) → ((k : ℕ) → Queued t k → ⊥) → X m t) where
+    (grown : (s : Image) (g : Grown n s) → X (encoded s) (erase (g .table))) (idle : (m : Memory) (t : Table) → ((k : ℕ) → Queued t k → ⊥) → X m t) where
   from-set-up : X (afterRun qs (memoryOf (setUp d c w l))) (tableAfter qs (memoryOf (setUp d c w l)) blank)
   unfolding start
   from-set-up = go (accepts (length d) (length c) w l) refl
@@ -177,12 +177,12 @@ module _ (d c : List ℕ) (w l : ℕ) (lw : w ≤ 4294967295) (qs : List Call) (
           → X (afterRun qs (memoryOf (setUp d c w l))) (tableAfter qs (memoryOf (setUp d c w l)) blank)
       go true e =
           let a = accepted (length d) (length c) w l e in
-          let s : Image = bridge.first d w l in
+          let s : Image = bridge.firstImage d w l in
           let f = follow s qs (start n (length d / 24) (limitOf l) (w - 1) (a .some) (a .most) (omega arith)) below in
           subst (λ (x : Memory). X (afterRun qs x) (tableAfter qs x blank)) (sym (set-up-whole d c w l e))
-          (subst (λ (x : Table). X (afterRun qs (whole s)) (tableAfter qs (whole s) x)) erase-empty
-          (subst (λ (x : Memory). X x (tableAfter qs (whole s) (erase own.empty))) (sym (f .memory))
-          (subst (λ (x : Table). X (whole (run s qs)) x) (sym (f .table)) (grown (run s qs) (f .grown)))))
+          (subst (λ (x : Table). X (afterRun qs (encoded s)) (tableAfter qs (encoded s) x)) erase-empty
+          (subst (λ (x : Memory). X x (tableAfter qs (encoded s) (erase own.emptyₚ))) (sym (f .memory))
+          (subst (λ (x : Table). X (encoded (run s qs)) x) (sym (f .table)) (grown (run s qs) (f .grown)))))
       go false e = idle _ _ (λ k. nobody-queued _ k (ap (λ (x : Memory). tableAfter qs x blank) (refused-memory d c w l e) ∙ refused-table d c qs))
 
 -- ---- the three claims
@@ -190,7 +190,7 @@ module _ (d c : List ℕ) (w l : ℕ) (lw : w ≤ 4294967295) (qs : List Call) (
 module _ (d c : List ℕ) (w l : ℕ) (lw : w ≤ 4294967295) (qs : List Call) where
   pub nobody-waits : NobodyWaits (memoryOf (setUp d c w l)) qs
   nobody-waits n below rounds =
-      from-set-up d c w l lw qs n below (λ m t. AllBelow n (flatten rounds) → ClosedWithin (limit n) m t rounds)
+      from-set-up d c w l lw qs n below (λ m t. AllBelow n (flatten rounds) → ClosedWithin (roundLimit n) m t rounds)
       (λ s g. closed-within s g rounds) (λ m t h below rs long k q. absurd (h k q))
 
   pub whoever-calls : WhoeverCalls (memoryOf (setUp d c w l)) qs
@@ -205,7 +205,7 @@ module _ (d c : List ℕ) (w l : ℕ) (lw : w ≤ 4294967295) (qs : List Call) w
   rounds-exist n below = (
     turns-below n n (omega arith),
     from-set-up d c w l lw qs n below (λ m t. Round m t (inTurn n))
-        (λ s g k q. has-turn n k (whole s) (is-below s g k (in-queue s g k q))) (λ m t h k q. absurd (h k q)),
+        (λ s g k q. has-turn n k (encoded s) (is-below s g k (in-queue s g k q))) (λ m t h k q. absurd (h k q)),
   )
     where
       turns-below : (n k : ℕ) → k ≤ n → AllBelow n (inTurn k)
@@ -214,7 +214,7 @@ module _ (d c : List ℕ) (w l : ℕ) (lw : w ≤ 4294967295) (qs : List Call) w
 
       own-turn : (n k : ℕ) (x : Memory) → n ≡ k → served k x (inTurn (suc n)) ≡ true
       own-turn n k x e =
-          ap (λ (y : Bool). (y || over (fateBy k (Advance n) (tells (Advance n) x))) || served k (memoryOf (takes (Advance n) x)) (inTurn n))
+          ap (λ (y : Bool). (y || isOver (fateBy k (Advance n) (observed (Advance n) x))) || served k (memoryOf (step (Advance n) x)) (inTurn n))
           (eq-eqb n k e)
 
       has-turn : (n k : ℕ) (x : Memory) → k < n → served k x (inTurn n) ≡ true
@@ -222,5 +222,5 @@ module _ (d c : List ℕ) (w l : ℕ) (lw : w ≤ 4294967295) (qs : List Call) w
       has-turn (suc n) k x h =
           by-cases (ℕ-discrete n k)
           (own-turn n k x)
-          (λ e. ap (λ (y : Bool). serves k (Advance n) (tells (Advance n) x) || y) (has-turn n k _ (omega (arith, e)))
-          ∙ or-true (serves k (Advance n) (tells (Advance n) x)))
+          (λ e. ap (λ (y : Bool). serves k (Advance n) (observed (Advance n) x) || y) (has-turn n k _ (omega (arith, e)))
+          ∙ or-true (serves k (Advance n) (observed (Advance n) x)))

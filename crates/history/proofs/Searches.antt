@@ -20,12 +20,12 @@ use Rattle.spec.specs.declared.Number.{Number}
 use Rattle.spec.specs.declared.Number.the-variants.{Some, None}
 use Rattle.spec.specs.declared.Found.{Found}
 use Rattle.spec.specs.declared.Found.the-variants.{At, Missing}
-use Rattle.spec.specs.declared.Seen.{Seen}
-use Rattle.spec.specs.declared.Seen.the-variants.{Version, Nothing}
+use Rattle.spec.specs.declared.Lookup.{Lookup}
+use Rattle.spec.specs.declared.Lookup.the-variants.{Version, Nothing}
 use Rattle.spec.specs.Numbers as n
 use Rattle.spec.specs.Numbers.{lesser, above, upTo}
 use Rattle.spec.specs.Look as k
-use Rattle.spec.specs.Look.{commitOf, isOwn, versionOf, newer, seenAt, newest}
+use Rattle.spec.specs.Look.{commitOf, isOwn, versionOf, newer, versionAt, newest}
 use Rattle.spec.specs.Share.{any, wrote, cellsOf, shares, clash, conflict}
 use Rattle.spec.specs.Calls.{cells}
 use Rattle.spec.specs.Table.{Value, Values, has}
@@ -34,8 +34,8 @@ use Rattle.history.proofs.Counts.{valued-none, valued-same, valued-more
 use Rattle.history.proofs.Lists as l
 use Rattle.history.proofs.Lists.{in-nil, in-case, any?, drop?, first, orNext}
 use Rattle.history.proofs.Model as m
-use Rattle.history.proofs.Model.{DRow, find, valueAt, some?, numOf, numberAt, sift, sharing?, readKey, checkKey, largest, smallest}
-use Rattle.history.proofs.Took.{HasRow}
+use Rattle.history.proofs.Model.{DRow, findₛ, valueAtₛ, some?, numOf, numberAt, sift, sharing?, readKey, checkKey, largest, smallestₛ}
+use Rattle.history.proofs.Transition.{HasRow}
 use Rattle.history.proofs.View.{dataRowOf, commitRowOf}
 
 -- ---- a decision as a test
@@ -138,12 +138,12 @@ module _ (t x : ℕ) where
       (λ e. (e, eqb-true (cellOf r) x (rw (eq-eqb (tagOf r) t e) at h)))
       (λ n. absurd (false≢true (rw (ne-eqb (tagOf r) t n) at h)))
 
-  pub own-yes : (r : Row) → isOwn t x r ≡ true → valueAt t x (dataRowOf r) ≡ some (valueOf r)
-  unfolding valueAt dataRowOf
+  pub own-yes : (r : Row) → isOwn t x r ≡ true → valueAtₛ t x (dataRowOf r) ≡ some (valueOf r)
+  unfolding valueAtₛ dataRowOf
   own-yes r h = let e = own-is r h in if-pos (ℕ-discrete (tagOf r) t) (e .0) _ none ∙ if-pos (ℕ-discrete (cellOf r) x) (e .1) (some (valueOf r)) none
 
-  pub own-no : (r : Row) → isOwn t x r ≡ false → valueAt t x (dataRowOf r) ≡ none
-  unfolding valueAt dataRowOf isOwn
+  pub own-no : (r : Row) → isOwn t x r ≡ false → valueAtₛ t x (dataRowOf r) ≡ none
+  unfolding valueAtₛ dataRowOf isOwn
   own-no r h =
       by-cases (ℕ-discrete (tagOf r) t)
       (λ e. if-pos (ℕ-discrete (tagOf r) t) e _ none ∙ by-cases (ℕ-discrete (cellOf r) x)
@@ -151,30 +151,30 @@ module _ (t x : ℕ) where
       (λ f. if-neg (ℕ-discrete (cellOf r) x) f (some (valueOf r)) none))
       (λ n. if-neg (ℕ-discrete (tagOf r) t) n _ none)
 
-  own-from : (pre rs : List Row) → find t x (map dataRowOf rs) ≡ ownValue (pre ++ rs) (k.find (isOwn t x) (length pre) rs)
-  unfolding find first k.find
+  own-from : (pre rs : List Row) → findₛ t x (map dataRowOf rs) ≡ ownValue (pre ++ rs) (k.find (isOwn t x) (length pre) rs)
+  unfolding findₛ first k.find
   own-from pre [] = refl
   own-from pre (r ∷ rs) =
       let e : (pre ++ (r ∷ [])) ++ rs ≡ pre ++ (r ∷ rs) = append-assoc pre (r ∷ []) rs in
       let n : length (pre ++ (r ∷ [])) ≡ length pre + 1 = length-append pre (r ∷ []) in
       go (isOwn t x r) refl (rw (e, n) at (own-from (pre ++ (r ∷ [])) rs))
     where
-      go : (b : Bool) → isOwn t x r ≡ b → first (valueAt t x) (map dataRowOf rs) ≡ ownValue (pre ++ (r ∷ rs)) (k.find (isOwn t x) (length pre + 1) rs)
-          → orNext (valueAt t x (dataRowOf r)) (first (valueAt t x) (map dataRowOf rs))
+      go : (b : Bool) → isOwn t x r ≡ b → first (valueAtₛ t x) (map dataRowOf rs) ≡ ownValue (pre ++ (r ∷ rs)) (k.find (isOwn t x) (length pre + 1) rs)
+          → orNext (valueAtₛ t x (dataRowOf r)) (first (valueAtₛ t x) (map dataRowOf rs))
           ≡ ownValue (pre ++ (r ∷ rs)) (if b then At (length pre) else k.find (isOwn t x) (length pre + 1) rs)
       go true h ih = rw (own-yes r h, getD-append-seam pre r rs [])
       go false h ih = rw (own-no r h) ih
 
-  pub own-view : (ds : List Row) → find t x (map dataRowOf ds) ≡ ownValue ds (k.find (isOwn t x) 0 ds)
+  pub own-view : (ds : List Row) → findₛ t x (map dataRowOf ds) ≡ ownValue ds (k.find (isOwn t x) 0 ds)
   own-view ds = own-from [] ds
 
-  pub wrote-view : (ds : List Row) → says (some? (find t x (map dataRowOf ds))) ≡ wrote ds t x
-  unfolding wrote any some? find first
+  pub wrote-view : (ds : List Row) → says (some? (findₛ t x (map dataRowOf ds))) ≡ wrote ds t x
+  unfolding wrote any some? findₛ first
   wrote-view [] = refl
   wrote-view (r ∷ rs) = go (isOwn t x r) refl (wrote-view rs)
     where
-      go : (b : Bool) → isOwn t x r ≡ b → says (some? (first (valueAt t x) (map dataRowOf rs))) ≡ any (isOwn t x) rs
-          → says (some? (orNext (valueAt t x (dataRowOf r)) (first (valueAt t x) (map dataRowOf rs)))) ≡ (if b then true else any (isOwn t x) rs)
+      go : (b : Bool) → isOwn t x r ≡ b → says (some? (first (valueAtₛ t x) (map dataRowOf rs))) ≡ any (isOwn t x) rs
+          → says (some? (orNext (valueAtₛ t x (dataRowOf r)) (first (valueAtₛ t x) (map dataRowOf rs)))) ≡ (if b then true else any (isOwn t x) rs)
       go true h ih = rw (own-yes r h)
       go false h ih = rw (own-no r h) ih
 
@@ -185,16 +185,16 @@ unfolding some?
 has-says none = refl
 has-says (some v) = refl
 
-has-view : (t x : ℕ) (ds : List Row) → has (find t x (map dataRowOf ds)) ≡ wrote ds t x
-has-view t x ds = has-says (find t x (map dataRowOf ds)) ∙ wrote-view t x ds
+has-view : (t x : ℕ) (ds : List Row) → has (findₛ t x (map dataRowOf ds)) ≡ wrote ds t x
+has-view t x ds = has-says (findₛ t x (map dataRowOf ds)) ∙ wrote-view t x ds
 
 -- a row in front of others: what is found for a cell with it and without it
 module _ (t : ℕ) (r : Row) (rs : List Row) where
   abbrev with-it : Values
-  with-it x = find t x (map dataRowOf (r ∷ rs))
+  with-it x = findₛ t x (map dataRowOf (r ∷ rs))
 
   abbrev without-it : Values
-  without-it x = find t x (map dataRowOf rs)
+  without-it x = findₛ t x (map dataRowOf rs)
 
   on : (x : ℕ) → isOwn t x r ≡ true → has (with-it x) ≡ true
   unfolding wrote any
@@ -235,22 +235,22 @@ module _ (t : ℕ) (r : Row) (rs : List Row) where
   counted true p false q h =
       omega (arith, valued-more cells with-it without-it (cellOf r) h (on (cellOf r) (own-cell p)) (has-view t (cellOf r) rs ∙ q) (λ x n. off x (other-cell x n)))
 
-pub cells-view : (t : ℕ) (ds : List Row) → ((r : DRow) → In r (map dataRowOf ds) → r .cell < cells) → cellsOf t ds ≡ valued cells (λ x. find t x (map dataRowOf ds))
+pub cells-view : (t : ℕ) (ds : List Row) → ((r : DRow) → In r (map dataRowOf ds) → r .cell < cells) → cellsOf t ds ≡ valued cells (λ x. findₛ t x (map dataRowOf ds))
 unfolding cellsOf wrote any dataRowOf
-cells-view t [] inside = sym (valued-none cells (λ x. find t x []) (λ x. has-view t x []))
+cells-view t [] inside = sym (valued-none cells (λ x. findₛ t x []) (λ x. has-view t x []))
 cells-view t (r ∷ rs) inside =
     rw (cells-view t rs (λ q i. inside q (there i))) (counted t r rs (hasTag t r) refl (wrote rs t (cellOf r)) refl (inside (dataRowOf r) (here refl)))
 
 -- ---- the newest version that a read finds
 
 -- a find among the rows ds
-abbrev pub versionIn : List Row → Seen → Option (ℕ × DRow)
+abbrev pub versionIn : List Row → Lookup → Option (ℕ × DRow)
 versionIn ds Nothing = none
 versionIn ds (Version i n) = some (n, dataRowOf (getD ds i []))
 
-newer-view : (ds : List Row) (i : ℕ) (r : Row) → getD ds i [] ≡ r → (a : Number) (b : Seen)
-    → versionIn ds (newer (seenAt i a) b) ≡ l.better (λ n m. n < m) (λ n m. decLt n m) (asNumber a) (dataRowOf r) (versionIn ds b)
-unfolding newer seenAt l.better
+newer-view : (ds : List Row) (i : ℕ) (r : Row) → getD ds i [] ≡ r → (a : Number) (b : Lookup)
+    → versionIn ds (newer (versionAt i a) b) ≡ l.better (λ n m. n < m) (λ n m. decLt n m) (asNumber a) (dataRowOf r) (versionIn ds b)
+unfolding newer versionAt l.better
 newer-view ds i r h None b = refl
 newer-view ds i r h (Some n) Nothing = rw h
 newer-view ds i r h (Some n) (Version j m) =
@@ -290,15 +290,15 @@ newest-view cell s cs ds = newest-from (versionOf cell s cs) (readKey (map commi
 -- ---- shared cells
 
 shared-row : (ds : List Row) (a b : ℕ) (r : Row)
-    → says (Dec·and (ℕ-discrete (dataRowOf r .tag) b) (some? (find a (dataRowOf r .cell) (map dataRowOf ds)))) ≡ (if hasTag b r then wrote ds a (cellOf r) else false)
+    → says (Dec·and (ℕ-discrete (dataRowOf r .tag) b) (some? (findₛ a (dataRowOf r .cell) (map dataRowOf ds)))) ≡ (if hasTag b r then wrote ds a (cellOf r) else false)
 unfolding hasTag dataRowOf
 shared-row ds a b r =
-    says-and (ℕ-discrete (tagOf r) b) (some? (find a (cellOf r) (map dataRowOf ds))) ∙ rw (says-eq (tagOf r) b, wrote-view a (cellOf r) ds)
+    says-and (ℕ-discrete (tagOf r) b) (some? (findₛ a (cellOf r) (map dataRowOf ds))) ∙ rw (says-eq (tagOf r) b, wrote-view a (cellOf r) ds)
 
 pub shares-view : (ds : List Row) (a b : ℕ) → says (sharing? (map dataRowOf ds) b a) ≡ shares ds a b
 unfolding sharing? shares
 shares-view ds a b =
-    any-view (λ r. Dec·and (ℕ-discrete (r .tag) b) (some? (find a (r .cell) (map dataRowOf ds)))) (λ r. if hasTag b r then wrote ds a (cellOf r) else false) (shared-row ds a b) ds
+    any-view (λ r. Dec·and (ℕ-discrete (r .tag) b) (some? (findₛ a (r .cell) (map dataRowOf ds)))) (λ r. if hasTag b r then wrote ds a (cellOf r) else false) (shared-row ds a b) ds
 
 -- ---- the check's smallest clash: its number alone counts
 
@@ -334,16 +334,16 @@ module _ (ds cs : List Row) (t b : ℕ) where
   clash-view : (q : Row) → asNumber (clash ds cs t b q) ≡ key (dataRowOf q)
   unfolding clash checkKey dataRowOf
   clash-view q =
-      let d = some? (find t (cellOf q) (map dataRowOf ds)) in
+      let d = some? (findₛ t (cellOf q) (map dataRowOf ds)) in
       by-cases d
       (λ p. rw (sym (wrote-view t (cellOf q) ds) ∙ says-yes d p) (above-view b (commitOf (tagOf q) cs) ∙ ap (sift (λ n. decLt b n)) (sym (commit-view (tagOf q) cs))) ∙ sym (if-pos d p _ none))
       (λ n. rw (sym (wrote-view t (cellOf q) ds) ∙ says-no d n) (sym (if-neg d n _ none)))
 
-  least-view : (qs : List Row) → asNumber (n.smallest (map (clash ds cs t b) qs)) ≡ numberIn (smallest key (map dataRowOf qs))
-  unfolding n.smallest smallest l.best
+  least-view : (qs : List Row) → asNumber (n.smallest (map (clash ds cs t b) qs)) ≡ numberIn (smallestₛ key (map dataRowOf qs))
+  unfolding n.smallest smallestₛ l.best
   least-view [] = refl
-  least-view (q ∷ qs) = lesser-view (clash ds cs t b q) (dataRowOf q) (n.smallest (map (clash ds cs t b) qs)) (smallest key (map dataRowOf qs)) (least-view qs) ∙ rw (clash-view q)
+  least-view (q ∷ qs) = lesser-view (clash ds cs t b q) (dataRowOf q) (n.smallest (map (clash ds cs t b) qs)) (smallestₛ key (map dataRowOf qs)) (least-view qs) ∙ rw (clash-view q)
 
-  pub check-view : asNumber (conflict t b ds cs) ≡ numberIn (smallest key (map dataRowOf ds))
+  pub check-view : asNumber (conflict t b ds cs) ≡ numberIn (smallestₛ key (map dataRowOf ds))
   unfolding conflict
   check-view = least-view ds

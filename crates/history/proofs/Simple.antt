@@ -16,8 +16,8 @@ use Rattle.spec.specs.Set.{clients}
 use Rattle.spec.specs.Rows.{Row}
 use Rattle.spec.specs.declared.Found.{Found}
 use Rattle.spec.specs.declared.Found.the-variants.{At, Missing}
-use Rattle.spec.specs.declared.Seen.{Seen}
-use Rattle.spec.specs.declared.Seen.the-variants.{Version, Nothing}
+use Rattle.spec.specs.declared.Lookup.{Lookup}
+use Rattle.spec.specs.declared.Lookup.the-variants.{Version, Nothing}
 use Rattle.spec.specs.Look.{isOwn, find, versionOf, newest, ownOr, lookFor}
 use Rattle.spec.specs.Answers.{Answered, noClient, noCell, alreadyOpen, notOpen, wrongStage, numbersUsedUp}
 use Rattle.spec.specs.Image.{Clients, Image, isOpen, stageOf, numberOf, snapshotOf}
@@ -27,39 +27,39 @@ use Rattle.spec.specs.Table.{Value, orElse, bytesRead}
 use Rattle.history.proofs.Wellformed.{Wellformed, Tidy}
 use Rattle.history.proofs.Model as m
 use Rattle.history.proofs.Model.{out, largest, readKey, lookup, committedAt}
-use Rattle.history.proofs.Took.{no-begin, no-read, no-abandon, begins, reads, abandons, frees}
-use Rattle.history.proofs.View.{dataRowOf, commitRowOf, One, clientOf, clientsAs, view, clients-put, closed-put, none-listed, stage-at, past-number, free-at, W-at}
+use Rattle.history.proofs.Transition.{no-begin, no-read, no-abandon, begins, reads, abandons, frees}
+use Rattle.history.proofs.View.{dataRowOf, commitRowOf, Fields, clientOf, clientsAs, view, clients-put, closed-put, none-listed, stage-at, past-number, free-at, W-at}
 use Rattle.history.proofs.Searches.{ownValue, own-view, versionIn, newest-view, removed-rows}
-use Rattle.history.proofs.Does.{seenAs, Does, does, does-if, shut, not-open, opens}
+use Rattle.history.proofs.Simulates.{observedOutcome, Simulates, simulates, simulates-if, shut, not-open, is-open}
 
 -- ---- Begin
 
-begun-view : (i : Image) (k : ℕ) → Tidy (i .clients) → k < clients → seenAs (Begin k) (begun k i) ≡ m.begun (view i) k
-unfolding begun m.begun view clientOf
+begun-view : (i : Image) (k : ℕ) → Tidy (i .clients) → k < clients → observedOutcome (Begin k) (begun k i) ≡ m.begunₛ (view i) k
+unfolding begun m.begunₛ view clientOf
 begun-view i k z h =
-    let o : One = record { stage = 0; number = i .counters .issued + 1; snapshot = i .counters .last; request = 0; commit = 0; blockers = 0; ahead = 0 } in
+    let o : Fields = record { stage = 0; number = i .counters .issued + 1; snapshot = i .counters .last; request = 0; commit = 0; requestWaits = 0; commitWaits = 0 } in
     rw (clients-put (i .clients) z k h o, none-listed, add-one (i .counters .issued))
 
-pub begin-does : (i : Image) (k : ℕ) → Wellformed i → i .counters .issued ≤ top → Does i (Begin k) (begin k i)
+pub begin-does : (i : Image) (k : ℕ) → Wellformed i → i .counters .issued ≤ top → Simulates i (Begin k) (begin k i)
 unfolding begin
 begin-does i k z w =
-    does-if i (Begin k) (leb clients k) (λ _. record { did = no-begin k noClient (omega arith) }) (λ h.
-    does-if i (Begin k) (isOpen i k) (λ _. record { did = no-begin k alreadyOpen (omega arith) }) (λ e.
-    does-if i (Begin k) (eqb (i .counters .issued) top) (λ _. record { did = no-begin k numbersUsedUp (omega arith) }) (λ n.
+    simulates-if i (Begin k) (leb clients k) (λ _. record { did = no-begin k noClient (omega arith) }) (λ h.
+    simulates-if i (Begin k) (isOpen i k) (λ _. record { did = no-begin k alreadyOpen (omega arith) }) (λ e.
+    simulates-if i (Begin k) (eqb (i .counters .issued) top) (λ _. record { did = no-begin k numbersUsedUp (omega arith) }) (λ n.
     let l : k < clients = leb-false clients k h in
     let d : i .counters .issued ≡ top → ⊥ = eqb-false (i .counters .issued) top n in
-    does i (Begin k) (begun k i) (begun-view i k (z .tidy) l) (begins k l (shut i k e) (omega (arith, d, W-at i))))))
+    simulates i (Begin k) (begun k i) (begun-view i k (z .tidy) l) (begins k l (shut i k e) (omega (arith, d, W-at i))))))
 
 -- ---- Read
 
-chosen : (ds : List Row) (o : Found) (w : Seen) → bytesRead ds (reading (ownOr o w)) ≡ orElse (ownValue ds o) (m.valueOf (versionIn ds w))
-unfolding ownOr m.valueOf dataRowOf
+chosen : (ds : List Row) (o : Found) (w : Lookup) → bytesRead ds (reading (ownOr o w)) ≡ orElse (ownValue ds o) (m.valueOfₛ (versionIn ds w))
+unfolding ownOr m.valueOfₛ dataRowOf
 chosen ds (At j) w = refl
 chosen ds Missing Nothing = refl
 chosen ds Missing (Version j n) = refl
 
 found-view : (t x b : ℕ) (cs ds : List Row)
-    → bytesRead ds (reading (lookFor t x b ds cs)) ≡ orElse (m.find t x (map dataRowOf ds)) (m.valueOf (largest (readKey (map commitRowOf cs) x b) (map dataRowOf ds)))
+    → bytesRead ds (reading (lookFor t x b ds cs)) ≡ orElse (m.findₛ t x (map dataRowOf ds)) (m.valueOfₛ (largest (readKey (map commitRowOf cs) x b) (map dataRowOf ds)))
 unfolding lookFor
 found-view t x b cs ds = rw (own-view t x ds, ← newest-view x b cs ds) (chosen ds (find (isOwn t x) 0 ds) (newest (versionOf x b cs) 0 ds))
 
@@ -71,17 +71,17 @@ lookup-view i k x = found-view (numberOf i k) x (snapshotOf i k) (i .commitRows)
 not6 : {X : Type 0} (r : ℕ) → (r ≡ notOpen → ⊥) → r ≡ notOpen → X
 not6 r n e = absurd (n e)
 
-pub read-does : (i : Image) (k x : ℕ) → Wellformed i → Does i (Read k x) (read k x i)
+pub read-does : (i : Image) (k x : ℕ) → Wellformed i → Simulates i (Read k x) (read k x i)
 unfolding read
 read-does i k x z =
-    does-if i (Read k x) (leb clients k)
+    simulates-if i (Read k x) (leb clients k)
     (λ h. record { did = no-read k x noClient (λ o. absurd (omega (arith, o, past-number i (z .tidy) k (leb-true clients k h)))) }) (λ h.
-    does-if i (Read k x) (leb cells x) (λ g. record { did = no-read k x noCell (λ _. inl (leb-true cells x g, refl)) }) (λ g.
-    does-if i (Read k x) (not (isOpen i k)) (λ e. record { did = no-read k x notOpen (λ o. absurd (omega (arith, o, not-open i k e))) }) (λ o.
-    does-if i (Read k x) (ltb 11 (stageOf i k))
+    simulates-if i (Read k x) (leb cells x) (λ g. record { did = no-read k x noCell (λ _. inl (leb-true cells x g, refl)) }) (λ g.
+    simulates-if i (Read k x) (not (isOpen i k)) (λ e. record { did = no-read k x notOpen (λ o. absurd (omega (arith, o, not-open i k e))) }) (λ o.
+    simulates-if i (Read k x) (ltb 11 (stageOf i k))
     (λ l. record { did = no-read k x wrongStage (λ _. inr (leb-false cells x g, omega (arith, ltb-true 11 (stageOf i k) l, stage-at i k), refl)) }) (λ l.
-    does i (Read k x) _ (ap (λ (v : Option Value). out (view i) (Answered v)) (lookup-view i k x))
-    (reads k x (leb-false cells x g) (opens i k o) (omega (arith, ltb-false 11 (stageOf i k) l, stage-at i k)))))))
+    simulates i (Read k x) _ (ap (λ (v : Option Value). out (view i) (Answered v)) (lookup-view i k x))
+    (reads k x (leb-false cells x g) (is-open i k o) (omega (arith, ltb-false 11 (stageOf i k) l, stage-at i k)))))))
 
 -- ---- Abandon
 
@@ -89,22 +89,22 @@ pub number-of : (c : Clients) (k : ℕ) → clientsAs c k .number ≡ getD (c .n
 unfolding clientsAs clientOf
 number-of c k = refl
 
-pub removed-view : (i : Image) (k : ℕ) → Tidy (i .clients) → k < clients → view (removed k i) ≡ m.removed (view i) k
+pub removed-view : (i : Image) (k : ℕ) → Tidy (i .clients) → k < clients → view (removed k i) ≡ m.removedₛ (view i) k
 unfolding removed view
 removed-view i k z h = rw (closed-put (i .clients) z k h, number-of (i .clients) k, removed-rows (getD (i .clients .number) k 0) (i .dataRows))
 
-pub abandon-does : (i : Image) (k : ℕ) → Wellformed i → Does i (Abandon k) (abandon k i)
+pub abandon-does : (i : Image) (k : ℕ) → Wellformed i → Simulates i (Abandon k) (abandon k i)
 unfolding abandon
 abandon-does i k z =
-    does-if i (Abandon k) (leb clients k) (λ _. record { did = no-abandon k noClient (not6 noClient (λ e. omega arith)) }) (λ h.
-    does-if i (Abandon k) (not (isOpen i k)) (λ e. record { did = no-abandon k notOpen (λ _. not-open i k e) }) (λ o.
-    does-if i (Abandon k) (leb 12 (stageOf i k)) (λ _. record { did = no-abandon k wrongStage (not6 wrongStage (λ e. omega arith)) }) (λ g.
+    simulates-if i (Abandon k) (leb clients k) (λ _. record { did = no-abandon k noClient (not6 noClient (λ e. omega arith)) }) (λ h.
+    simulates-if i (Abandon k) (not (isOpen i k)) (λ e. record { did = no-abandon k notOpen (λ _. not-open i k e) }) (λ o.
+    simulates-if i (Abandon k) (leb 12 (stageOf i k)) (λ _. record { did = no-abandon k wrongStage (not6 wrongStage (λ e. omega arith)) }) (λ g.
     let l : k < clients = leb-false clients k h in
-    does i (Abandon k) _ (rw (← removed-view i k (z .tidy) l, free-at (removed k i)))
-    (abandons k l (opens i k o) (omega (arith, leb-false 12 (stageOf i k) g, stage-at i k))))))
+    simulates i (Abandon k) _ (rw (← removed-view i k (z .tidy) l, free-at (removed k i)))
+    (abandons k l (is-open i k o) (omega (arith, leb-false 12 (stageOf i k) g, stage-at i k))))))
 
 -- ---- Free
 
-pub free-does : (i : Image) → Does i Free (free i)
+pub free-does : (i : Image) → Simulates i Free (free i)
 unfolding free
-free-does i = does i Free _ (rw (← free-at i)) frees
+free-does i = simulates i Free _ (rw (← free-at i)) frees

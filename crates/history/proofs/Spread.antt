@@ -9,7 +9,7 @@ use native.Mathlib.Nat.{mul-add}
 use native.Mathlib.Omega.{arith}
 use lib.ListN.{length, drop, replicate, length-append, length-replicate, replicate-append-replicate}
 use lib.Seq.{drop-append-add, drop-at}
-use Rattle.spec.specs.Rows.{Row, rowsIn, laid}
+use Rattle.spec.specs.Rows.{Row, rowsIn, layout}
 use Rattle.spec.proofs.Rows.{Wide, rows-flat, length-flat}
 
 -- the rows rs of width w in a buffer of n rows
@@ -31,8 +31,8 @@ drop-zeros : (k m : ℕ) → drop {A = ℕ} k (replicate (k + m) 0) ≡ replicat
 drop-zeros k m =
     ap (λ (l : List ℕ). drop k l) (sym (replicate-append-replicate {A = ℕ} k m 0)) ∙ drop-at {A = ℕ} (replicate k 0) (replicate m 0) k (length-replicate {A = ℕ} k 0)
 
-pub laid-spread : (w n : ℕ) (rs rs′ : List Row) → Wide w rs → length rs ≤ n → length rs′ ≤ n → laid w (length rs) rs′ (spread w n rs) ≡ spread w n rs′
-unfolding laid spread
+pub laid-spread : (w n : ℕ) (rs rs′ : List Row) → Wide w rs → length rs ≤ n → length rs′ ≤ n → layout w (length rs) rs′ (spread w n rs) ≡ spread w n rs′
+unfolding layout spread
 laid-spread w n rs rs′ h g g′ =
     let a : ℕ = length rs in
     let m : ℕ = length rs′ in

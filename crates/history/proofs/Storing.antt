@@ -23,17 +23,17 @@ use Rattle.spec.specs.Look.{isOwn, find}
 use Rattle.spec.specs.Share.{cellsOf}
 use Rattle.spec.specs.Answers.{Answered, noClient, noCell, notOpen, wrongStage, cellLimit, noFreeRow, wrongLength}
 use Rattle.spec.specs.Image.{Image, withRows, isOpen, stageOf, numberOf}
-use Rattle.spec.specs.Calls.{cells, givesFree, added, replaced, stored, write}
+use Rattle.spec.specs.Calls.{cells, repliesFree, added, replaced, stored, write}
 use Rattle.spec.specs.Run.{Write}
 use Rattle.spec.specs.Table.{has}
 use Rattle.spec.specs.Right.{valued, Writable, for-cell, for-length, for-stage, for-limit, for-rows}
 use Rattle.history.proofs.Wellformed.{Wellformed}
 use Rattle.history.proofs.Model as m
 use Rattle.history.proofs.Model.{DRow, replace, some?, writesOf}
-use Rattle.history.proofs.Took.{no-write, replaces, adds}
+use Rattle.history.proofs.Transition.{no-write, replaces, adds}
 use Rattle.history.proofs.View.{dataRowOf, clientOf, clientsAs, view, map-join, free-at, limit-at, stage-at, past-number}
 use Rattle.history.proofs.Searches.{ownValue, own-yes, own-no, own-view, cells-view}
-use Rattle.history.proofs.Does.{seenAs, Does, does, does-if, not-open, opens, at-first}
+use Rattle.history.proofs.Simulates.{observedOutcome, Simulates, simulates, simulates-if, not-open, is-open, at-first}
 
 -- ---- a row with another value
 
@@ -107,11 +107,11 @@ module _ (i : Image) (k x : ℕ) (v : List ℕ) (z : Wellformed i) (l : length v
   unfolding m.overwritten view replaced clientsAs clientOf
   replaced-view j e = rw (replaced-from (numberOf i k) x v l [] (i .dataRows) j (z .dataWide) e)
 
-  replaced-figure : (j : ℕ) → seenAs (Write k x v) (replaced j v i) ≡ m.figured (view (replaced j v i .image))
+  replaced-figure : (j : ℕ) → observedOutcome (Write k x v) (replaced j v i) ≡ m.figured (view (replaced j v i .image))
   unfolding replaced
   replaced-figure j = rw (free-at (replaced j v i .image))
 
-  find-at : m.find (view i .cl k .number) x (view i .dat) ≡ ownValue (i .dataRows) (find (isOwn (numberOf i k) x) 0 (i .dataRows))
+  find-at : m.findₛ (view i .cl k .number) x (view i .dat) ≡ ownValue (i .dataRows) (find (isOwn (numberOf i k) x) 0 (i .dataRows))
   unfolding view clientsAs clientOf
   find-at = own-view (numberOf i k) x (i .dataRows)
 
@@ -120,11 +120,11 @@ module _ (i : Image) (k x : ℕ) (v : List ℕ) (z : Wellformed i) (l : length v
     more : Image
     more = withRows i (i .dataRows ++ (dataRow (numberOf i k) x v ∷ [])) (i .commitRows)
 
-    added-view : m.figured (view more) ≡ m.added (view i) k x v
-    unfolding m.added view clientsAs clientOf more
+    added-view : m.figured (view more) ≡ m.addedₛ (view i) k x v
+    unfolding m.addedₛ view clientsAs clientOf more
     added-view = rw (map-join dataRowOf (i .dataRows) (dataRow (numberOf i k) x v ∷ []), row-view (numberOf i k) x v small (omega arith) l)
 
-    added-figure : seenAs (Write k x v) (givesFree more) ≡ m.figured (view more)
+    added-figure : observedOutcome (Write k x v) (repliesFree more) ≡ m.figured (view more)
     added-figure = rw (free-at more)
 
     -- the cells that the limit is held to, by the table of what the client wrote
@@ -136,36 +136,36 @@ module _ (i : Image) (k x : ℕ) (v : List ℕ) (z : Wellformed i) (l : length v
     may = record { cell = below; bytes = l; stage = stage }
 
     pub stored-does : ((r : DRow) → In r (view i .dat) → r .cell < cells) → (o : Found) → find (isOwn (numberOf i k) x) 0 (i .dataRows) ≡ o
-        → Does i (Write k x v) (stored o k x v i)
+        → Simulates i (Write k x v) (stored o k x v i)
     unfolding added more
     stored-does inside (At j) e =
         let found : writesOf (view i) k x ≡ some (valueOf (getD (i .dataRows) j [])) = find-at ∙ rw e in
-        does i (Write k x v) (replaced j v i) (replaced-figure j ∙ replaced-view j e)
+        simulates i (Write k x v) (replaced j v i) (replaced-figure j ∙ replaced-view j e)
         (replaces k x v (record { may = may; fewer = λ n. absurd (true≢false (sym (ap has found) ∙ n)) }) isopen (rw found tt))
     stored-does inside Missing e =
         let new : writesOf (view i) k x ≡ none = find-at ∙ rw e in
         let n : has (writesOf (view i) k x) ≡ false = ap has new in
         let c = count-at inside in
-        does-if i (Write k x v) (leb (i .limit) (cellsOf (numberOf i k) (i .dataRows)))
+        simulates-if i (Write k x v) (leb (i .limit) (cellsOf (numberOf i k) (i .dataRows)))
         (λ f. record { did = no-write k x v cellLimit (λ _. for-limit may n (omega (arith, c, limit-at i, leb-true (i .limit) _ f))) }) (λ f.
         let fewer : valued cells (writesOf (view i) k) < view i .bounds .limit = omega (arith, c, limit-at i, leb-false (i .limit) _ f) in
-        does-if i (Write k x v) (leb (i .rows) (length (i .dataRows)))
+        simulates-if i (Write k x v) (leb (i .rows) (length (i .dataRows)))
         (λ g. record { did = no-write k x v noFreeRow (λ _. for-rows may n fewer (ap (λ (m : ℕ). Answered m) (free-at i ∙ omega (arith, leb-true (i .rows) _ g)))) }) (λ _.
-        does i (Write k x v) (givesFree more) (added-figure ∙ added-view)
+        simulates i (Write k x v) (repliesFree more) (added-figure ∙ added-view)
         (adds k x v (record { may = may; fewer = λ _. fewer }) isopen new)))
 
 pub write-does : (i : Image) (k x : ℕ) (v : List ℕ) → Wellformed i → numberOf i k < 4294967296 → ((r : DRow) → In r (view i .dat) → r .cell < cells)
-    → Does i (Write k x v) (write k x v i)
+    → Simulates i (Write k x v) (write k x v i)
 unfolding write
 write-does i k x v z b inside =
-    does-if i (Write k x v) (leb clients k)
+    simulates-if i (Write k x v) (leb clients k)
     (λ h. record { did = no-write k x v noClient (λ o. absurd (omega (arith, o, past-number i (z .tidy) k (leb-true clients k h)))) }) (λ h.
-    does-if i (Write k x v) (leb cells x) (λ g. record { did = no-write k x v noCell (λ _. for-cell (leb-true cells x g)) }) (λ g.
+    simulates-if i (Write k x v) (leb cells x) (λ g. record { did = no-write k x v noCell (λ _. for-cell (leb-true cells x g)) }) (λ g.
     let below : x < cells = leb-false cells x g in
-    does-if i (Write k x v) (not (eqb (length v) 16))
+    simulates-if i (Write k x v) (not (eqb (length v) 16))
     (λ l. record { did = no-write k x v wrongLength (λ _. for-length below (eqb-false (length v) 16 (not-true (eqb (length v) 16) l))) }) (λ l.
     let bytes : length v ≡ 16 = eqb-true (length v) 16 (not-false (eqb (length v) 16) l) in
-    does-if i (Write k x v) (not (isOpen i k)) (λ e. record { did = no-write k x v notOpen (λ o. absurd (omega (arith, o, not-open i k e))) }) (λ o.
-    does-if i (Write k x v) (not (eqb (stageOf i k) 0))
+    simulates-if i (Write k x v) (not (isOpen i k)) (λ e. record { did = no-write k x v notOpen (λ o. absurd (omega (arith, o, not-open i k e))) }) (λ o.
+    simulates-if i (Write k x v) (not (eqb (stageOf i k) 0))
     (λ f. record { did = no-write k x v wrongStage (λ _. for-stage below bytes (omega (arith, stage-at i k, eqb-false (stageOf i k) 0 (not-true (eqb (stageOf i k) 0) f)))) }) (λ f.
-    stored-does i k x v z bytes b below (opens i k o) (at-first i k f) inside (find (isOwn (numberOf i k) x) 0 (i .dataRows)) refl)))))
+    stored-does i k x v z bytes b below (is-open i k o) (at-first i k f) inside (find (isOwn (numberOf i k) x) 0 (i .dataRows)) refl)))))

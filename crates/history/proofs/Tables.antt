@@ -12,20 +12,20 @@ use native.Mathlib.Decide.{ℕ-discrete, decLe}
 use native.Mathlib.Omega.{arith}
 use lib.ListN.{length}
 use Rattle.history.proofs.Lists.{in-nil, in-case, none-some, option-case, drop?, drop-in, in-drop, first-keep, first-gone, On, on-some, any?}
-use Rattle.history.proofs.Model.{DRow, CRow, find, valueAt, numOf, numberAt, without, passed?, bare?, Passed}
-use Rattle.history.proofs.Plain.{Entry, lastOf, written}
-use Rattle.history.proofs.Invariant.{Seen, whole, Superseded, RowOf, Mine, Tab}
+use Rattle.history.proofs.Model.{DRow, CRow, findₛ, valueAtₛ, numOf, numberAt, without, passed?, bare?, Passed}
+use Rattle.history.proofs.Plain.{Entry, lastOfₚ, written}
+use Rattle.history.proofs.Invariant.{Reader, valuesOf, Superseded, RowOf, Mine, Tab}
 use Rattle.history.proofs.Moves.{each}
-use Rattle.history.proofs.Entries.{is-some, value-tag, find-row, none-found, find-uniq, uniq-drop, find-without, Written, book-max, newer-none, newer-cons, older-all, older-cons, upTo-whole, upTo-skip, number-at, num-old, num-new, num-none, num-case}
-use Rattle.spec.specs.Table.{Value, put, orElse, over}
+use Rattle.history.proofs.Booked.{is-some, value-tag, find-row, none-found, find-uniq, uniq-drop, find-without, Written, book-max, newerₚ-none, newerₚ-cons, older-all, older-cons, upTo-whole, upTo-skip, number-at, num-old, num-new, num-none, num-case}
+use Rattle.spec.specs.Table.{Value, override, orElse, overlay}
 use Rattle.spec.specs.Calls.{cells}
 use borrow.Author.Tests.{eq-eqb, ne-eqb}
 
 -- What row-of says of a row.
-abbrev Owned : List CRow → (ℕ → Seen) → DRow → Type 0
+abbrev Owned : List CRow → (ℕ → Reader) → DRow → Type 0
 Owned comm v r = ((a : ℕ) × (1 ≤ v a .num) × (v a .late ≡ 0) × (r .tag ≡ v a .num)) ⊎ ((n : ℕ) × (numOf (r .tag) comm ≡ some n))
 
-module _ (a : ℕ) {v v′ : ℕ → Seen} (else : (b : ℕ) → b ≢ a → v′ b ≡ v b) where
+module _ (a : ℕ) {v v′ : ℕ → Reader} (else : (b : ℕ) → b ≢ a → v′ b ≡ v b) where
   -- An owner other than client a stays.
   owner : (comm : List CRow) (r : DRow) → (1 ≤ v a .num → v a .late ≡ 0 → r .tag ≡ v a .num → ⊥) → Owned comm v r → Owned comm v′ r
   owner comm r n (inr h) = inr h
@@ -35,10 +35,10 @@ module _ (a : ℕ) {v v′ : ℕ → Seen} (else : (b : ℕ) → b ≢ a → v�
       (λ m. inl (h .0, rw (else (h .0) m) (h .1), rw (else (h .0) m) (h .2), rw (else (h .0) m) (h .3)))
 
 -- A later commit that all saw is still seen by all: an open client was open, or sees all.
-abbrev Sees : ℕ → (ℕ → Seen) → (ℕ → Seen) → Type 0
+abbrev Sees : ℕ → (ℕ → Reader) → (ℕ → Reader) → Type 0
 Sees last v v′ = (b : ℕ) → 1 ≤ v′ b .num → (last ≤ v′ b .snap) ⊎ ((1 ≤ v b .num) × (v b .snap ≤ v′ b .snap))
 
-seen : (book book′ : List Entry) (last last′ : ℕ) (v v′ : ℕ → Seen) → ((d : Entry) → In d book → In d book′) → last ≤ last′ → Sees last v v′
+seen : (book book′ : List Entry) (last last′ : ℕ) (v v′ : ℕ → Reader) → ((d : Entry) → In d book → In d book′) → last ≤ last′ → Sees last v v′
     → (e : Entry) (x : ℕ) → Superseded book last v e x → Superseded book′ last′ v′ e x
 seen book book′ last last′ v v′ sub le sees e x d = (d .0, sub (d .0) (d .1), d .2, d .3, omega (arith, d .4), λ b h. go b (sees b h))
   where
@@ -50,8 +50,8 @@ kept-map : {X X′ Y Y′ : Type 0} → (X → X′) → (Y → Y′) → X ⊎ 
 kept-map f g (inl x) = inl (f x)
 kept-map f g (inr y) = inr (g y)
 
-module _ {dat : List DRow} {comm : List CRow} {last W : ℕ} {table : ℕ → Option Value} {book : List Entry} {v : ℕ → Seen}
-    (t : Tab dat comm last W table book v) (a : ℕ) {v′ : ℕ → Seen} (else : (b : ℕ) → b ≢ a → v′ b ≡ v b) where
+module _ {dat : List DRow} {comm : List CRow} {last W : ℕ} {table : ℕ → Option Value} {book : List Entry} {v : ℕ → Reader}
+    (t : Tab dat comm last W table book v) (a : ℕ) {v′ : ℕ → Reader} (else : (b : ℕ) → b ≢ a → v′ b ≡ v b) where
   sees-else : (1 ≤ v′ a .num → (last ≤ v′ a .snap) ⊎ ((1 ≤ v a .num) × (v a .snap ≤ v′ a .snap))) → Sees last v v′
   sees-else h = each a (λ b. 1 ≤ v′ b .num → (last ≤ v′ b .snap) ⊎ ((1 ≤ v b .num) × (v b .snap ≤ v′ b .snap))) h
       (λ b m k. inr (rw (else b m) at k, rw (else b m) (omega arith)))
@@ -63,7 +63,7 @@ module _ {dat : List DRow} {comm : List CRow} {last W : ℕ} {table : ℕ → Op
       rw (else y my) (λ q. h y my (subst (λ (z : ℕ). 1 ≤ v′ z .num) e k) (sym q ∙ ap (λ (z : ℕ). v′ z .num) e)))
       (λ mx. by-cases (ℕ-discrete y a)
       (λ e q. by-cases (decLe 1 (v′ a .num))
-      (λ k′. h x mx k′ (ap (λ (z : Seen). z .num) (sym (else x mx)) ∙ q ∙ ap (λ (z : ℕ). v′ z .num) e))
+      (λ k′. h x mx k′ (ap (λ (z : Reader). z .num) (sym (else x mx)) ∙ q ∙ ap (λ (z : ℕ). v′ z .num) e))
       (λ k′. omega (arith, ap (λ (z : ℕ). v′ z .num) e)))
       (λ my. rw (else x mx, else y my) (t .apart x y n (rw (else x mx) at k))))
 
@@ -143,10 +143,10 @@ module _ {dat : List DRow} {comm : List CRow} {last W : ℕ} {table : ℕ → Op
           held = λ _ x. none-found (suc W) x dat (λ r i e. omega (arith, row-le r i));
           snap-le = omega arith;
           since-le = omega arith;
-          is-newer = λ e i. absurd (in-nil (rw (newer-none book) at i));
+          is-newer = λ e i. absurd (in-nil (rw (newerₚ-none book) at i));
           newer-is = λ e i h. absurd (omega (arith, all-le e i));
           copied = λ x. t .all-table x ∙ sym (upTo-whole last book x all-le);
-          began = ap lastOf (older-all book) ∙ t .book-last;
+          began = ap lastOfₚ (older-all book) ∙ t .book-last;
         }))
         (λ b m. rw (else b m) (λ h. let o = t .mine b h in record {
           num-le = omega (arith, o .num-le);
@@ -176,14 +176,14 @@ module _ {dat : List DRow} {comm : List CRow} {last W : ℕ} {table : ℕ → Op
   pub tab-written : (x : ℕ) (w : Value) (dat′ : List DRow) → x < cells → 1 ≤ v a .num → v a .late ≡ 0 → Written (v a .num) x w dat dat′
       → v′ a ≡ record { num = v a .num; snap = v a .snap; late = v a .late; since = v a .since; copy = v a .copy; writes = written (v a .writes) x w }
       → Tab dat′ comm last W table book v′
-  unfolding put
+  unfolding override
   tab-written x w dat′ below isopen late d at = record {
     mine = each a (λ b. 1 ≤ v′ b .num → Mine dat′ comm last W book (v′ b))
         (rw at (λ h. let o = t .mine a isopen in record {
           num-le = o .num-le;
           not-yet = o .not-yet;
           held = λ l y. by-cases (ℕ-discrete y x)
-              (λ e. rw (eq-eqb y x e) (ap (λ (z : ℕ). find (v a .num) z dat′) e ∙ d .this))
+              (λ e. rw (eq-eqb y x e) (ap (λ (z : ℕ). findₛ (v a .num) z dat′) e ∙ d .this))
               (λ n. rw (ne-eqb y x n) (d .cells y n ∙ o .held l y));
           snap-le = o .snap-le;
           since-le = o .since-le;
@@ -249,23 +249,23 @@ module _ {dat : List DRow} {comm : List CRow} {last W : ℕ} {table : ℕ → Op
     abbrev comm′ : List CRow
     comm′ = comm ++ (record { number = n; tag = v a .num } ∷ [])
 
-    mine′ : (z : Seen) → (z .late ≡ 0 → z .num ≢ v a .num) → Mine dat comm last W book z → Mine dat comm′ n W (entry ∷ book) z
+    mine′ : (z : Reader) → (z .late ≡ 0 → z .num ≢ v a .num) → Mine dat comm last W book z → Mine dat comm′ n W (entry ∷ book) z
     mine′ z h o = record {
       num-le = o .num-le;
       not-yet = λ l. num-none comm n (v a .num) (z .num) (o .not-yet l) (h l);
       held = o .held;
       snap-le = omega (arith, o .snap-le);
       since-le = omega (arith, o .since-le);
-      is-newer = λ e i. in-case (rw (newer-cons (z .since) entry book (o .since-le)) at i)
+      is-newer = λ e i. in-case (rw (newerₚ-cons (z .since) entry book (o .since-le)) at i)
           (λ q. (here q, omega (arith, o .snap-le, ap (λ (z : Entry). z .number) q)))
           (λ j. let k = o .is-newer e j in (there (k .0), k .1));
-      newer-is = λ e i k. rw (newer-cons (z .since) entry book (o .since-le)) (in-case i here (λ j. there (o .newer-is e j k)));
+      newer-is = λ e i k. rw (newerₚ-cons (z .since) entry book (o .since-le)) (in-case i here (λ j. there (o .newer-is e j k)));
       copied = λ x. o .copied x ∙ sym (upTo-skip (z .snap) entry book x (omega (arith, o .snap-le)));
-      began = ap lastOf (older-cons (z .since) entry book (o .since-le)) ∙ o .began;
+      began = ap lastOfₚ (older-cons (z .since) entry book (o .since-le)) ∙ o .began;
     }
 
-    pub tab-committed : Tab dat comm′ n W (over (v a .writes) table) (entry ∷ book) v′
-    unfolding lastOf whole
+    pub tab-committed : Tab dat comm′ n W (overlay (v a .writes) table) (entry ∷ book) v′
+    unfolding lastOfₚ valuesOf
     tab-committed = record {
       mine = each a (λ b. 1 ≤ v′ b .num → Mine dat comm′ n W (entry ∷ book) (v′ b))
           (rw at (λ h. mine′ _ (λ q. absurd (omega arith)) (relate (t .mine a isopen))))
@@ -326,7 +326,7 @@ module _ {dat : List DRow} {comm : List CRow} {last W : ℕ} {table : ℕ → Op
           entry,
           here refl,
           q .2,
-          sym (t .mine a isopen .held late (r .cell)) ∙ ap (λ (z : ℕ). find z (r .cell) dat) (sym (q .1)) ∙ find-uniq dat (t .uniq) r i,
+          sym (t .mine a isopen .held late (r .cell)) ∙ ap (λ (z : ℕ). findₛ z (r .cell) dat) (sym (q .1)) ∙ find-uniq dat (t .uniq) r i,
         )
 
         mine-row : (e : Entry) (x : ℕ) → e ≡ entry → IsSome (e .puts x) → RowOf dat comm′ (e .number) x
@@ -349,7 +349,7 @@ abbrev pub trimComm : List DRow → List CRow → ℕ → List CRow
 trimComm dat comm l = drop? (bare? (trimDat dat comm l)) comm
 
 -- A trim at l: l is at most every snapshot.
-module _ {dat : List DRow} {comm : List CRow} {last W : ℕ} {table : ℕ → Option Value} {book : List Entry} {v : ℕ → Seen}
+module _ {dat : List DRow} {comm : List CRow} {last W : ℕ} {table : ℕ → Option Value} {book : List Entry} {v : ℕ → Reader}
     (t : Tab dat comm last W table book v) (l : ℕ) (low-last : l ≤ last) (low-snap : (a : ℕ) → 1 ≤ v a .num → l ≤ v a .snap) where
   -- A tag with a row left keeps its number, another has none.
   pub num-kept : (u : ℕ) (r : DRow) → In r (trimDat dat comm l) → r .tag ≡ u → numOf u (trimComm dat comm l) ≡ numOf u comm
@@ -374,10 +374,10 @@ module _ {dat : List DRow} {comm : List CRow} {last W : ℕ} {table : ℕ → Op
   pub was : (r : DRow) → In r (trimDat dat comm l) → In r dat × (Passed dat comm l r → ⊥)
   was r i = drop-in (passed? dat comm l) dat r i
 
-  find-open : (u x : ℕ) → numOf u comm ≡ none → find u x (trimDat dat comm l) ≡ find u x dat
-  unfolding find
+  find-open : (u x : ℕ) → numOf u comm ≡ none → findₛ u x (trimDat dat comm l) ≡ findₛ u x dat
+  unfolding findₛ
   find-open u x e =
-      first-keep (valueAt u x) (passed? dat comm l) dat
+      first-keep (valueAtₛ u x) (passed? dat comm l) dat
       (λ r i q. value-tag u x r (λ z. let n = on-some (numOf (r .tag) comm) q in none-some (ap (λ (y : ℕ). numOf y comm) z ∙ e) (n .1)))
 
   pub tab-trimmed : Tab (trimDat dat comm l) (trimComm dat comm l) last W table book v

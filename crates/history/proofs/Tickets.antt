@@ -91,46 +91,46 @@ unfolding clear
 clear-fewer a w b e = by-cases (ℕ-discrete b a) (λ p. absurd (clear-own a w (ap (clear a w) (sym p) ∙ e))) (λ n. sym (clear-other a w b n) ∙ e)
 
 -- How many of the first n clients are on a list.
-unfoldable pub bit : Bool → ℕ
-bit true = 1
-bit false = 0
+unfoldable pub oneIf : Bool → ℕ
+oneIf true = 1
+oneIf false = 0
 
-bit-false : bit false ≡ 0
-unfolding bit
+bit-false : oneIf false ≡ 0
+unfolding oneIf
 bit-false = refl
 
-unfoldable pub count : ℕ → (ℕ → Bool) → ℕ
-count zero w = 0
-count (suc n) w = bit (w n) + count n w
+unfoldable pub listSize : ℕ → (ℕ → Bool) → ℕ
+listSize zero w = 0
+listSize (suc n) w = oneIf (w n) + listSize n w
 
-pub count-none : (n : ℕ) (w : ℕ → Bool) → count n w ≡ 0 → (b : ℕ) → b < n → w b ≡ true → ⊥
-unfolding count bit
+pub count-none : (n : ℕ) (w : ℕ → Bool) → listSize n w ≡ 0 → (b : ℕ) → b < n → w b ≡ true → ⊥
+unfolding listSize oneIf
 count-none zero w e b h t = omega arith
 count-none (suc n) w e b h t =
     by-cases (ℕ-discrete b n)
     (λ p. let q : w n ≡ true = ap w (sym p) ∙ t in none1 (rw q at e))
     (λ p. count-none n w (omega arith) b (omega arith) t)
   where
-    none1 : 1 + count n w ≡ 0 → ⊥
+    none1 : 1 + listSize n w ≡ 0 → ⊥
     none1 e = omega arith
 
-pub count-zero : (n : ℕ) (w : ℕ → Bool) → ((b : ℕ) → w b ≡ true → ⊥) → count n w ≡ 0
-unfolding count
+pub count-zero : (n : ℕ) (w : ℕ → Bool) → ((b : ℕ) → w b ≡ true → ⊥) → listSize n w ≡ 0
+unfolding listSize
 count-zero zero w h = refl
 count-zero (suc n) w h = omega (arith, count-zero n w h, absent (w n) (h n))
   where
-    absent : (x : Bool) → (x ≡ true → ⊥) → bit x ≡ 0
+    absent : (x : Bool) → (x ≡ true → ⊥) → oneIf x ≡ 0
     absent true k = absurd (k refl)
     absent false k = bit-false
 
-pub record Queue (ph num : ℕ → ℕ) (list : ℕ → ℕ → Bool) (ctr : ℕ) (Rel : ℕ → ℕ → Type 0) : Type 0 where
+pub record TicketQueue (ph num : ℕ → ℕ) (list : ℕ → ℕ → Bool) (ctr : ℕ) (Rel : ℕ → ℕ → Type 0) : Type 0 where
   pub bound : (a : ℕ) → 2 ≤ ph a → num a ≤ ctr
   pub apart : (a b : ℕ) → a ≢ b → 2 ≤ ph a → 2 ≤ ph b → num a ≢ num b
   pub listed : (a b : ℕ) → a ≢ b → 2 ≤ ph a → ph b ≡ 4 → Rel a b → num a < num b → list b a ≡ true
   pub passed : (a b : ℕ) → a ≢ b → 2 ≤ ph a → 5 ≤ ph b → Rel a b → num a < num b → ⊥
 
 -- With no number taken it holds.
-pub idle-queue : {ph num : ℕ → ℕ} {list : ℕ → ℕ → Bool} {ctr : ℕ} {Rel : ℕ → ℕ → Type 0} → ((a : ℕ) → ph a ≤ 1) → Queue ph num list ctr Rel
+pub idle-queue : {ph num : ℕ → ℕ} {list : ℕ → ℕ → Bool} {ctr : ℕ} {Rel : ℕ → ℕ → Type 0} → ((a : ℕ) → ph a ≤ 1) → TicketQueue ph num list ctr Rel
 idle-queue h = record {
   bound = λ a k. absurd (omega (arith, h a));
   apart = λ a b n k. absurd (omega (arith, h a));
@@ -139,7 +139,7 @@ idle-queue h = record {
 }
 
 -- Two that have passed do not concern one another.
-pub exclusive : {ph num : ℕ → ℕ} {list : ℕ → ℕ → Bool} {ctr : ℕ} {Rel : ℕ → ℕ → Type 0} → Queue ph num list ctr Rel
+pub exclusive : {ph num : ℕ → ℕ} {list : ℕ → ℕ → Bool} {ctr : ℕ} {Rel : ℕ → ℕ → Type 0} → TicketQueue ph num list ctr Rel
     → (a b : ℕ) → a ≢ b → 5 ≤ ph a → 5 ≤ ph b → Rel a b → Rel b a → ⊥
 exclusive {ph} {num} q a b n ha hb r r′ = go (decLt (num a) (num b))
   where
@@ -160,7 +160,7 @@ pub record Others (c : ℕ) (ph num : ℕ → ℕ) (list : ℕ → ℕ → Bool)
 
 module _ (c : ℕ) {ph num : ℕ → ℕ} {list : ℕ → ℕ → Bool} {ctr : ℕ} {Rel : ℕ → ℕ → Type 0}
     {ph′ num′ : ℕ → ℕ} {list′ : ℕ → ℕ → Bool} {ctr′ : ℕ} {Rel′ : ℕ → ℕ → Type 0}
-    (q : Queue ph num list ctr Rel) (o : Others c ph num list ctr Rel ph′ num′ list′ ctr′ Rel′) where
+    (q : TicketQueue ph num list ctr Rel) (o : Others c ph num list ctr Rel ph′ num′ list′ ctr′ Rel′) where
   old : (b : ℕ) → b ≢ c → (ph′ b ≡ ph b) × (num′ b ≡ num b)
   old b n = (o .phase b n, o .number b n)
 
@@ -180,7 +180,7 @@ module _ (c : ℕ) {ph num : ℕ → ℕ} {list : ℕ → ℕ → Bool} {ctr : �
       let ea = old a na in let eb = old b nb in q .passed a b n (omega arith) (omega arith) (o .concerns a b ha (omega arith) r) (omega arith)
 
   -- Client c comes out of the step with no number: it entered, left, or works outside the queue.
-  pub low : ph′ c ≤ 1 → Queue ph′ num′ list′ ctr′ Rel′
+  pub low : ph′ c ≤ 1 → TicketQueue ph′ num′ list′ ctr′ Rel′
   low h = record {
     bound = λ a ha. let g = o .counter in omega (arith, bound-old a (ne a ha) ha);
     apart = λ a b n ha hb. apart-old a b (ne a ha) (ne b hb) n ha hb;
@@ -192,7 +192,7 @@ module _ (c : ℕ) {ph num : ℕ → ℕ} {list : ℕ → ℕ → Bool} {ctr : �
       ne a ha e = omega (arith, ap ph′ e)
 
   -- It takes the next number.
-  pub taken : ph′ c ≤ 3 → num′ c ≡ suc ctr → ctr′ ≡ suc ctr → Queue ph′ num′ list′ ctr′ Rel′
+  pub taken : ph′ c ≤ 3 → num′ c ≡ suc ctr → ctr′ ≡ suc ctr → TicketQueue ph′ num′ list′ ctr′ Rel′
   taken h f g = record {
     bound = λ a ha. by-cases (ℕ-discrete a c) (λ e. omega (arith, ap num′ e)) (λ n. omega (arith, bound-old a n ha));
     apart = λ a b n ha hb.
@@ -213,7 +213,7 @@ module _ (c : ℕ) {ph num : ℕ → ℕ} {list : ℕ → ℕ → Bool} {ctr : �
   pub own : 2 ≤ ph c → num′ c ≡ num c → ((b : ℕ) → b ≢ c → list′ b c ≡ list b c)
       → (ph′ c ≡ 4 → (a : ℕ) → a ≢ c → 2 ≤ ph a → Rel a c → num a < num c → list′ c a ≡ true)
       → (5 ≤ ph′ c → (a : ℕ) → a ≢ c → 2 ≤ ph a → Rel a c → num a < num c → ⊥)
-      → Queue ph′ num′ list′ ctr′ Rel′
+      → TicketQueue ph′ num′ list′ ctr′ Rel′
   own h f keeps lists passes = record {
     bound = λ a ha. by-cases (ℕ-discrete a c) (λ e. omega (arith, ap num′ e, q .bound c h, o .counter)) (λ n. omega (arith, bound-old a n ha, o .counter));
     apart = λ a b n ha hb.

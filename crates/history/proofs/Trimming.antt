@@ -19,20 +19,20 @@ use Rattle.spec.specs.Look.{commitOf}
 use Rattle.spec.specs.Trim.{between, later, overtaken, stays, trimmedRows, inUse, trimmedCommits}
 use Rattle.spec.specs.Answers.{Answered}
 use Rattle.spec.specs.Image.{Image, withRows, numberOf, snapshotOf}
-use Rattle.spec.specs.Calls.{readers, orElse, low, trimmedTo, trim}
+use Rattle.spec.specs.Calls.{readers, orNumber, low, trimmedTo, trim}
 use Rattle.spec.specs.Run.{Trim}
 use Rattle.history.proofs.Lists.{drop?, on?, any?}
 use Rattle.history.proofs.Model as m
 use Rattle.history.proofs.Model.{out, passed?, bare?, numOf}
-use Rattle.history.proofs.Took.{trims}
+use Rattle.history.proofs.Transition.{trims}
 use Rattle.history.proofs.View.{dataRowOf, commitRowOf, view, number-at, snapshot-at, last-at, used-at}
 use Rattle.history.proofs.Searches.{says, says-and, says-eq, says-lt, says-le, says-yes, says-no, any-view, drop-view, tag-view, asNumber, commit-view}
-use Rattle.history.proofs.Does.{seenAs, Does, does}
+use Rattle.history.proofs.Simulates.{observedOutcome, Simulates, simulates}
 
 -- ---- low
 
-lesser-view : (n : ℕ) (l : Number) → m.lesser n (asNumber l) ≡ asNumber (lesser (Some n) l)
-unfolding m.lesser lesser
+lesser-view : (n : ℕ) (l : Number) → m.lesserₛ n (asNumber l) ≡ asNumber (lesser (Some n) l)
+unfolding m.lesserₛ lesser
 lesser-view n None = refl
 lesser-view n (Some k) =
     by-cases (decLt k n)
@@ -49,13 +49,13 @@ module _ (i : Image) where
       (λ d. rw (ne-eqb (numberOf i n) 0 d) (if-pos (decLe 1 (view i .cl n .number)) (omega (arith, d, number-at i n)) _ _
       ∙ rw (snapshot-at i n, readers-view n) (lesser-view (snapshotOf i n) (smallest (readers i n)))))
 
-  or-view : (l : Number) → m.default (view i .last) (asNumber l) ≡ orElse l (i .counters .last)
+  or-view : (l : Number) → m.default (view i .last) (asNumber l) ≡ orNumber l (i .counters .last)
   unfolding m.default
   or-view (Some n) = refl
   or-view None = last-at i
 
-  low-view : m.low (view i) ≡ low i
-  unfolding m.low low
+  low-view : m.lowₛ (view i) ≡ low i
+  unfolding m.lowₛ low
   low-view = ap (m.default (view i .last)) (readers-view clients) ∙ or-view (smallest (readers i clients))
 
 -- ---- the rows that go
@@ -108,7 +108,7 @@ module _ (i : Image) where
   unfolding view
   rows-at l = data-left (i .dataRows) (i .commitRows) l
 
-  rows-left : drop? (passed? (view i .dat) (view i .comm) (m.low (view i))) (view i .dat) ≡ map dataRowOf (trimmedRows (low i) (i .dataRows) (i .commitRows))
+  rows-left : drop? (passed? (view i .dat) (view i .comm) (m.lowₛ (view i))) (view i .dat) ≡ map dataRowOf (trimmedRows (low i) (i .dataRows) (i .commitRows))
   rows-left = rw (low-view i) (rows-at (low i))
 
   entries-left : (d : List Row) → drop? (bare? (map dataRowOf d)) (view i .comm) ≡ map commitRowOf (trimmedCommits d (i .commitRows))
@@ -121,11 +121,11 @@ module _ (i : Image) where
   unfolding view
   left-as d c n = refl
 
-  trimmed-view : seenAs Trim (trim i) ≡ m.trimmed (view i)
-  unfolding trim trimmedTo m.trimmed
+  trimmed-view : observedOutcome Trim (trim i) ≡ m.trimmedₛ (view i)
+  unfolding trim trimmedTo m.trimmedₛ
   trimmed-view =
       let d : List Row = trimmedRows (low i) (i .dataRows) (i .commitRows) in
       rw (rows-left, entries-left d, used-at i, length-map d dataRowOf) (left-as d (trimmedCommits d (i .commitRows)) (length (i .dataRows) - length d))
 
-  pub trim-does : Does i Trim (trim i)
-  trim-does = does i Trim (trim i) trimmed-view trims
+  pub trim-does : Simulates i Trim (trim i)
+  trim-does = simulates i Trim (trim i) trimmed-view trims

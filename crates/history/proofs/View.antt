@@ -16,11 +16,11 @@ use lib.Seq.{getD-set-same, getD-set-other, set-getD}
 use Rattle.spec.specs.Set.{clients, member, remove}
 use Rattle.spec.proofs.Sets.{member-above, member-remove}
 use Rattle.spec.specs.Rows.{Row, tagOf, cellOf, valueOf, commitNumber, commitTag}
-use Rattle.spec.specs.Image.{Clients, clientsOf, Image, setStage, setRequest, setCommit, setBlockers, setAhead, cleared, unlisted, closed, stageOf, numberOf, snapshotOf, commitNumberOf}
+use Rattle.spec.specs.Image.{Clients, clientsOf, Image, setStage, setRequest, setCommit, setRequestWaits, setCommitWaits, cleared, unlisted, closed, stageOf, numberOf, snapshotOf, commitNumberOf}
 use Rattle.history.proofs.Wellformed.{Tidy, cleared-at, length-cleared}
 use Rattle.history.proofs.Tickets.{clear}
 use Rattle.history.proofs.Model as m
-use Rattle.history.proofs.Model.{DRow, CRow, Client, State, put, same, clearC, clearBoth, atStage, withRequest, withCommit, withRwait, withCwait}
+use Rattle.history.proofs.Model.{DRow, CRow, Client, State, putₛ, same, clearC, clearBoth, atStageₛ, withRequest, withCommit, withRwait, withCwait}
 
 unfoldable pub dataRowOf : Row → DRow
 dataRowOf r = record { tag = tagOf r; cell = cellOf r; value = valueOf r }
@@ -29,42 +29,42 @@ unfoldable pub commitRowOf : Row → CRow
 commitRowOf r = record { number = commitNumber r; tag = commitTag r }
 
 -- one client's seven fields
-pub record One : Type 0 where
+pub record Fields : Type 0 where
   pub stage : ℕ
   pub number : ℕ
   pub snapshot : ℕ
   pub request : ℕ
   pub commit : ℕ
-  pub blockers : ℕ
-  pub ahead : ℕ
+  pub requestWaits : ℕ
+  pub commitWaits : ℕ
 
-unfoldable pub clientOf : One → Client
+unfoldable pub clientOf : Fields → Client
 clientOf o = record {
   number = o .number;
   stage = o .stage;
   snapshot = o .snapshot;
   request = o .request;
   commit = o .commit;
-  rwait = member (o .blockers);
-  cwait = member (o .ahead);
+  rwait = member (o .requestWaits);
+  cwait = member (o .commitWaits);
 }
 
-abbrev pub at : Clients → ℕ → One
+abbrev pub at : Clients → ℕ → Fields
 at c k = record {
   stage = getD (c .stage) k 0;
   number = getD (c .number) k 0;
   snapshot = getD (c .snapshot) k 0;
   request = getD (c .request) k 0;
   commit = getD (c .commit) k 0;
-  blockers = getD (c .blockers) k 0;
-  ahead = getD (c .ahead) k 0;
+  requestWaits = getD (c .requestWaits) k 0;
+  commitWaits = getD (c .commitWaits) k 0;
 }
 
 -- client k's fields replaced
-abbrev pub putOne : ℕ → One → Clients → Clients
+abbrev pub putOne : ℕ → Fields → Clients → Clients
 putOne k o c =
     clientsOf (set (c .stage) k (o .stage)) (set (c .number) k (o .number)) (set (c .snapshot) k (o .snapshot)) (set (c .request) k (o .request))
-    (set (c .commit) k (o .commit)) (set (c .blockers) k (o .blockers)) (set (c .ahead) k (o .ahead))
+    (set (c .commit) k (o .commit)) (set (c .requestWaits) k (o .requestWaits)) (set (c .commitWaits) k (o .commitWaits))
 
 unfoldable pub clientsAs : Clients → ℕ → Client
 clientsAs c k = clientOf (at c k)
@@ -128,8 +128,8 @@ module _ (i : Image) where
   unfolding view
   entries-at = length-map (i .commitRows) commitRowOf
 
-  pub free-at : m.free (view i) ≡ i .rows - length (i .dataRows)
-  unfolding m.free view
+  pub free-at : m.freeₛ (view i) ≡ i .rows - length (i .dataRows)
+  unfolding m.freeₛ view
   free-at = rw (length-map (i .dataRows) dataRowOf)
 
   -- no client past the arrays' end is open
@@ -156,7 +156,7 @@ member-clear w k = fun-ext (λ j. member-remove w k j ∙ by-cases (ℕ-discrete
 -- ---- client k's fields replaced
 
 module _ (c : Clients) (z : Tidy c) (k : ℕ) (h : k < clients) where
-  module _ (o : One) where
+  module _ (o : Fields) where
     at-same : at (putOne k o c) k ≡ o
     at-same = λ i. record {
       stage = getD-set-same (c .stage) k (o .stage) 0 (omega (arith, z .stage .size)) i;
@@ -164,8 +164,8 @@ module _ (c : Clients) (z : Tidy c) (k : ℕ) (h : k < clients) where
       snapshot = getD-set-same (c .snapshot) k (o .snapshot) 0 (omega (arith, z .snapshot .size)) i;
       request = getD-set-same (c .request) k (o .request) 0 (omega (arith, z .request .size)) i;
       commit = getD-set-same (c .commit) k (o .commit) 0 (omega (arith, z .commit .size)) i;
-      blockers = getD-set-same (c .blockers) k (o .blockers) 0 (omega (arith, z .blockers .size)) i;
-      ahead = getD-set-same (c .ahead) k (o .ahead) 0 (omega (arith, z .ahead .size)) i;
+      requestWaits = getD-set-same (c .requestWaits) k (o .requestWaits) 0 (omega (arith, z .requestWaits .size)) i;
+      commitWaits = getD-set-same (c .commitWaits) k (o .commitWaits) 0 (omega (arith, z .commitWaits .size)) i;
     }
 
     at-other : (j : ℕ) → j ≢ k → at (putOne k o c) j ≡ at c j
@@ -175,26 +175,26 @@ module _ (c : Clients) (z : Tidy c) (k : ℕ) (h : k < clients) where
       snapshot = getD-set-other (c .snapshot) k j (o .snapshot) 0 n i;
       request = getD-set-other (c .request) k j (o .request) 0 n i;
       commit = getD-set-other (c .commit) k j (o .commit) 0 n i;
-      blockers = getD-set-other (c .blockers) k j (o .blockers) 0 n i;
-      ahead = getD-set-other (c .ahead) k j (o .ahead) 0 n i;
+      requestWaits = getD-set-other (c .requestWaits) k j (o .requestWaits) 0 n i;
+      commitWaits = getD-set-other (c .commitWaits) k j (o .commitWaits) 0 n i;
     }
 
-    pub clients-put : clientsAs (putOne k o c) ≡ put k (clientOf o) same (clientsAs c)
-    unfolding clientsAs put
+    pub clients-put : clientsAs (putOne k o c) ≡ putₛ k (clientOf o) same (clientsAs c)
+    unfolding clientsAs putₛ
     clients-put = fun-ext (λ j. by-cases (ℕ-discrete j k)
         (λ e. rw e (ap clientOf at-same) ∙ sym (if-pos (ℕ-discrete j k) e (clientOf o) (clientOf (at c j))))
         (λ n. ap clientOf (at-other j n) ∙ sym (if-neg (ℕ-discrete j k) n (clientOf o) (clientOf (at c j)))))
 
   -- the fields with another stage, request number, commit number and lists, where the others stay
-  abbrev fields : ℕ → ℕ → ℕ → ℕ → ℕ → One
-  fields g r n b a = record { stage = g; number = at c k .number; snapshot = at c k .snapshot; request = r; commit = n; blockers = b; ahead = a }
+  abbrev fields : ℕ → ℕ → ℕ → ℕ → ℕ → Fields
+  fields g r n b a = record { stage = g; number = at c k .number; snapshot = at c k .snapshot; request = r; commit = n; requestWaits = b; commitWaits = a }
 
-  pub stage-put : (g : ℕ) → clientsAs (setStage k g c) ≡ put k (atStage (clientsAs c k) g) same (clientsAs c)
+  pub stage-put : (g : ℕ) → clientsAs (setStage k g c) ≡ putₛ k (atStageₛ (clientsAs c k) g) same (clientsAs c)
   unfolding clientsAs clientOf
   stage-put g = ap clientsAs path ∙ clients-put o
     where
-      o : One
-      o = fields g (at c k .request) (at c k .commit) (at c k .blockers) (at c k .ahead)
+      o : Fields
+      o = fields g (at c k .request) (at c k .commit) (at c k .requestWaits) (at c k .commitWaits)
 
       path : setStage k g c ≡ putOne k o c
       path = λ i. record {
@@ -203,16 +203,16 @@ module _ (c : Clients) (z : Tidy c) (k : ℕ) (h : k < clients) where
         snapshot = sym (set-getD (c .snapshot) k 0) i;
         request = sym (set-getD (c .request) k 0) i;
         commit = sym (set-getD (c .commit) k 0) i;
-        blockers = sym (set-getD (c .blockers) k 0) i;
-        ahead = sym (set-getD (c .ahead) k 0) i;
+        requestWaits = sym (set-getD (c .requestWaits) k 0) i;
+        commitWaits = sym (set-getD (c .commitWaits) k 0) i;
       }
 
-  pub request-put : (g n : ℕ) → clientsAs (setStage k g (setRequest k n c)) ≡ put k (withRequest (clientsAs c k) g n) same (clientsAs c)
+  pub request-put : (g n : ℕ) → clientsAs (setStage k g (setRequest k n c)) ≡ putₛ k (withRequest (clientsAs c k) g n) same (clientsAs c)
   unfolding clientsAs clientOf
   request-put g n = ap clientsAs path ∙ clients-put o
     where
-      o : One
-      o = fields g n (at c k .commit) (at c k .blockers) (at c k .ahead)
+      o : Fields
+      o = fields g n (at c k .commit) (at c k .requestWaits) (at c k .commitWaits)
 
       path : setStage k g (setRequest k n c) ≡ putOne k o c
       path = λ i. record {
@@ -221,16 +221,16 @@ module _ (c : Clients) (z : Tidy c) (k : ℕ) (h : k < clients) where
         snapshot = sym (set-getD (c .snapshot) k 0) i;
         request = set (c .request) k n;
         commit = sym (set-getD (c .commit) k 0) i;
-        blockers = sym (set-getD (c .blockers) k 0) i;
-        ahead = sym (set-getD (c .ahead) k 0) i;
+        requestWaits = sym (set-getD (c .requestWaits) k 0) i;
+        commitWaits = sym (set-getD (c .commitWaits) k 0) i;
       }
 
-  pub commit-put : (g n : ℕ) → clientsAs (setStage k g (setCommit k n c)) ≡ put k (withCommit (clientsAs c k) g n) same (clientsAs c)
+  pub commit-put : (g n : ℕ) → clientsAs (setStage k g (setCommit k n c)) ≡ putₛ k (withCommit (clientsAs c k) g n) same (clientsAs c)
   unfolding clientsAs clientOf
   commit-put g n = ap clientsAs path ∙ clients-put o
     where
-      o : One
-      o = fields g (at c k .request) n (at c k .blockers) (at c k .ahead)
+      o : Fields
+      o = fields g (at c k .request) n (at c k .requestWaits) (at c k .commitWaits)
 
       path : setStage k g (setCommit k n c) ≡ putOne k o c
       path = λ i. record {
@@ -239,60 +239,60 @@ module _ (c : Clients) (z : Tidy c) (k : ℕ) (h : k < clients) where
         snapshot = sym (set-getD (c .snapshot) k 0) i;
         request = sym (set-getD (c .request) k 0) i;
         commit = set (c .commit) k n;
-        blockers = sym (set-getD (c .blockers) k 0) i;
-        ahead = sym (set-getD (c .ahead) k 0) i;
+        requestWaits = sym (set-getD (c .requestWaits) k 0) i;
+        commitWaits = sym (set-getD (c .commitWaits) k 0) i;
       }
 
-  pub blockers-put : (g w : ℕ) → clientsAs (setStage k g (setBlockers k w c)) ≡ put k (withRwait (clientsAs c k) g (member w)) same (clientsAs c)
+  pub requestWaits-put : (g w : ℕ) → clientsAs (setStage k g (setRequestWaits k w c)) ≡ putₛ k (withRwait (clientsAs c k) g (member w)) same (clientsAs c)
   unfolding clientsAs clientOf
-  blockers-put g w = ap clientsAs path ∙ clients-put o
+  requestWaits-put g w = ap clientsAs path ∙ clients-put o
     where
-      o : One
-      o = fields g (at c k .request) (at c k .commit) w (at c k .ahead)
+      o : Fields
+      o = fields g (at c k .request) (at c k .commit) w (at c k .commitWaits)
 
-      path : setStage k g (setBlockers k w c) ≡ putOne k o c
+      path : setStage k g (setRequestWaits k w c) ≡ putOne k o c
       path = λ i. record {
         stage = set (c .stage) k g;
         number = sym (set-getD (c .number) k 0) i;
         snapshot = sym (set-getD (c .snapshot) k 0) i;
         request = sym (set-getD (c .request) k 0) i;
         commit = sym (set-getD (c .commit) k 0) i;
-        blockers = set (c .blockers) k w;
-        ahead = sym (set-getD (c .ahead) k 0) i;
+        requestWaits = set (c .requestWaits) k w;
+        commitWaits = sym (set-getD (c .commitWaits) k 0) i;
       }
 
-  pub ahead-put : (g w : ℕ) → clientsAs (setStage k g (setAhead k w c)) ≡ put k (withCwait (clientsAs c k) g (member w)) same (clientsAs c)
+  pub commitWaits-put : (g w : ℕ) → clientsAs (setStage k g (setCommitWaits k w c)) ≡ putₛ k (withCwait (clientsAs c k) g (member w)) same (clientsAs c)
   unfolding clientsAs clientOf
-  ahead-put g w = ap clientsAs path ∙ clients-put o
+  commitWaits-put g w = ap clientsAs path ∙ clients-put o
     where
-      o : One
-      o = fields g (at c k .request) (at c k .commit) (at c k .blockers) w
+      o : Fields
+      o = fields g (at c k .request) (at c k .commit) (at c k .requestWaits) w
 
-      path : setStage k g (setAhead k w c) ≡ putOne k o c
+      path : setStage k g (setCommitWaits k w c) ≡ putOne k o c
       path = λ i. record {
         stage = set (c .stage) k g;
         number = sym (set-getD (c .number) k 0) i;
         snapshot = sym (set-getD (c .snapshot) k 0) i;
         request = sym (set-getD (c .request) k 0) i;
         commit = sym (set-getD (c .commit) k 0) i;
-        blockers = sym (set-getD (c .blockers) k 0) i;
-        ahead = set (c .ahead) k w;
+        requestWaits = sym (set-getD (c .requestWaits) k 0) i;
+        commitWaits = set (c .commitWaits) k w;
       }
 
   -- client k closed
   same-set : (l : List ℕ) → length l ≡ clients → getD (set l k 0) k 0 ≡ 0
   same-set l e = getD-set-same l k 0 0 (omega arith)
 
-  closed-same : clientsAs (closed k c) k ≡ m.closed
-  unfolding clientsAs clientOf closed m.closed
+  closed-same : clientsAs (closed k c) k ≡ m.closedₛ
+  unfolding clientsAs clientOf closed m.closedₛ
   closed-same = λ i. record {
     number = same-set (c .number) (z .number .size) i;
     stage = same-set (c .stage) (z .stage .size) i;
     snapshot = same-set (c .snapshot) (z .snapshot .size) i;
     request = same-set (c .request) (z .request .size) i;
     commit = same-set (c .commit) (z .commit .size) i;
-    rwait = (ap member (same-set (cleared k (c .blockers)) (length-cleared k (c .blockers) ∙ z .blockers .size)) ∙ none-listed) i;
-    cwait = (ap member (same-set (cleared k (c .ahead)) (length-cleared k (c .ahead) ∙ z .ahead .size)) ∙ none-listed) i;
+    rwait = (ap member (same-set (cleared k (c .requestWaits)) (length-cleared k (c .requestWaits) ∙ z .requestWaits .size)) ∙ none-listed) i;
+    cwait = (ap member (same-set (cleared k (c .commitWaits)) (length-cleared k (c .commitWaits) ∙ z .commitWaits .size)) ∙ none-listed) i;
   }
 
   closed-other : (j : ℕ) → j ≢ k → clientsAs (closed k c) j ≡ clearBoth k (clientsAs c j)
@@ -303,18 +303,18 @@ module _ (c : Clients) (z : Tidy c) (k : ℕ) (h : k < clients) where
     snapshot = getD-set-other (c .snapshot) k j 0 0 n i;
     request = getD-set-other (c .request) k j 0 0 n i;
     commit = getD-set-other (c .commit) k j 0 0 n i;
-    rwait = (ap member (getD-set-other (cleared k (c .blockers)) k j 0 0 n ∙ cleared-at (c .blockers) k j) ∙ member-clear (getD (c .blockers) j 0) k) i;
-    cwait = (ap member (getD-set-other (cleared k (c .ahead)) k j 0 0 n ∙ cleared-at (c .ahead) k j) ∙ member-clear (getD (c .ahead) j 0) k) i;
+    rwait = (ap member (getD-set-other (cleared k (c .requestWaits)) k j 0 0 n ∙ cleared-at (c .requestWaits) k j) ∙ member-clear (getD (c .requestWaits) j 0) k) i;
+    cwait = (ap member (getD-set-other (cleared k (c .commitWaits)) k j 0 0 n ∙ cleared-at (c .commitWaits) k j) ∙ member-clear (getD (c .commitWaits) j 0) k) i;
   }
 
-  pub closed-put : clientsAs (closed k c) ≡ put k m.closed (clearBoth k) (clientsAs c)
-  unfolding put
+  pub closed-put : clientsAs (closed k c) ≡ putₛ k m.closedₛ (clearBoth k) (clientsAs c)
+  unfolding putₛ
   closed-put = fun-ext (λ j. by-cases (ℕ-discrete j k)
-      (λ e. rw e closed-same ∙ sym (if-pos (ℕ-discrete j k) e m.closed (clearBoth k (clientsAs c j))))
-      (λ n. closed-other j n ∙ sym (if-neg (ℕ-discrete j k) n m.closed (clearBoth k (clientsAs c j)))))
+      (λ e. rw e closed-same ∙ sym (if-pos (ℕ-discrete j k) e m.closedₛ (clearBoth k (clientsAs c j))))
+      (λ n. closed-other j n ∙ sym (if-neg (ℕ-discrete j k) n m.closedₛ (clearBoth k (clientsAs c j)))))
 
   -- leaving the commit queue
-  left-same : clientsAs (setStage k 13 (unlisted k c)) k ≡ atStage (clearC k (clientsAs c k)) 13
+  left-same : clientsAs (setStage k 13 (unlisted k c)) k ≡ atStageₛ (clearC k (clientsAs c k)) 13
   unfolding clientsAs clientOf
   left-same = λ i. record {
     number = getD (c .number) k 0;
@@ -322,8 +322,8 @@ module _ (c : Clients) (z : Tidy c) (k : ℕ) (h : k < clients) where
     snapshot = getD (c .snapshot) k 0;
     request = getD (c .request) k 0;
     commit = getD (c .commit) k 0;
-    rwait = member (getD (c .blockers) k 0);
-    cwait = (ap member (cleared-at (c .ahead) k k) ∙ member-clear (getD (c .ahead) k 0) k) i;
+    rwait = member (getD (c .requestWaits) k 0);
+    cwait = (ap member (cleared-at (c .commitWaits) k k) ∙ member-clear (getD (c .commitWaits) k 0) k) i;
   }
 
   left-other : (j : ℕ) → j ≢ k → clientsAs (setStage k 13 (unlisted k c)) j ≡ clearC k (clientsAs c j)
@@ -334,15 +334,15 @@ module _ (c : Clients) (z : Tidy c) (k : ℕ) (h : k < clients) where
     snapshot = getD (c .snapshot) j 0;
     request = getD (c .request) j 0;
     commit = getD (c .commit) j 0;
-    rwait = member (getD (c .blockers) j 0);
-    cwait = (ap member (cleared-at (c .ahead) k j) ∙ member-clear (getD (c .ahead) j 0) k) i;
+    rwait = member (getD (c .requestWaits) j 0);
+    cwait = (ap member (cleared-at (c .commitWaits) k j) ∙ member-clear (getD (c .commitWaits) j 0) k) i;
   }
 
-  pub left-put : clientsAs (setStage k 13 (unlisted k c)) ≡ put k (atStage (clearC k (clientsAs c k)) 13) (clearC k) (clientsAs c)
-  unfolding put
+  pub left-put : clientsAs (setStage k 13 (unlisted k c)) ≡ putₛ k (atStageₛ (clearC k (clientsAs c k)) 13) (clearC k) (clientsAs c)
+  unfolding putₛ
   left-put = fun-ext (λ j. by-cases (ℕ-discrete j k)
-      (λ e. rw e left-same ∙ sym (if-pos (ℕ-discrete j k) e (atStage (clearC k (clientsAs c k)) 13) (clearC k (clientsAs c j))))
-      (λ n. left-other j n ∙ sym (if-neg (ℕ-discrete j k) n (atStage (clearC k (clientsAs c k)) 13) (clearC k (clientsAs c j)))))
+      (λ e. rw e left-same ∙ sym (if-pos (ℕ-discrete j k) e (atStageₛ (clearC k (clientsAs c k)) 13) (clearC k (clientsAs c j))))
+      (λ n. left-other j n ∙ sym (if-neg (ℕ-discrete j k) n (atStageₛ (clearC k (clientsAs c k)) 13) (clearC k (clientsAs c j)))))
 
 -- a stage that stays
 pub waits-put : (c : Clients) (k g : ℕ) → getD (c .stage) k 0 ≡ g → c ≡ setStage k g c
@@ -352,6 +352,6 @@ waits-put c k g e = λ i. record {
   snapshot = c .snapshot;
   request = c .request;
   commit = c .commit;
-  blockers = c .blockers;
-  ahead = c .ahead;
+  requestWaits = c .requestWaits;
+  commitWaits = c .commitWaits;
 }

@@ -9,13 +9,13 @@ use Rattle.spec.specs.Run.{Call, Begin, Read, Write, Advance, Abandon, Trim, Fr
 use Rattle.history.proofs.Wellformed.{zero-at}
 use Rattle.history.proofs.Model as m
 use Rattle.history.proofs.View.{clientOf, clientsAs, view, none-listed}
-use Rattle.history.proofs.Does.{Does}
+use Rattle.history.proofs.Simulates.{Simulates}
 use Rattle.history.proofs.Simple.{begin-does, read-does, abandon-does, free-does}
 use Rattle.history.proofs.Storing.{write-does}
 use Rattle.history.proofs.Trimming.{trim-does}
 use Rattle.history.proofs.Advancing.{Ready, advance-does}
 
-pub perform-does : (q : Call) (i : Image) → Ready i → i .counters .issued ≤ top → Does i q (perform q i)
+pub perform-does : (q : Call) (i : Image) → Ready i → i .counters .issued ≤ top → Simulates i q (perform q i)
 unfolding perform
 perform-does (Begin k) i h w = begin-does i k (h .fine) w
 perform-does (Read k x) i h w = read-does i k x (h .fine)
@@ -25,8 +25,8 @@ perform-does (Abandon k) i h w = abandon-does i k (h .fine)
 perform-does Trim i h w = trim-does i
 perform-does Free i h w = free-does i
 
-none-open : clientsAs (clientsOf zeros zeros zeros zeros zeros zeros zeros) ≡ (λ _. m.closed)
-unfolding clientsAs clientOf m.closed
+none-open : clientsAs (clientsOf zeros zeros zeros zeros zeros zeros zeros) ≡ (λ _. m.closedₛ)
+unfolding clientsAs clientOf m.closedₛ
 none-open = fun-ext (λ j. rw (zero-at clients j, none-listed))
 
 pub empty-view : (n l w : ℕ) → view (empty n l w) ≡ m.fresh (record { rows = n; limit = l }) w

@@ -26,9 +26,9 @@ use Rattle.spec.specs.Share.{any, cellsOf, shares, conflict}
 use Rattle.spec.specs.Trim.{stays, trimmedRows, inUse, trimmedCommits}
 use Rattle.spec.specs.declared.Progress.{Progress}
 use Rattle.spec.specs.Answers.{Answer}
-use Rattle.spec.specs.Image.{Clients, Image, setStage, setRequest, setCommit, setBlockers, setAhead, cleared, unlisted, opened, closed, zeros, empty, numberOf, snapshotOf, requestOf, stageOf, commitNumberOf, isOpen}
+use Rattle.spec.specs.Image.{Clients, Image, setStage, setRequest, setCommit, setRequestWaits, setCommitWaits, cleared, unlisted, opened, closed, zeros, empty, numberOf, snapshotOf, requestOf, stageOf, commitNumberOf, isOpen}
 use Rattle.spec.specs.Calls.{Outcome, cells, top, free, begun, begin, read, replaced, added, stored, write, removed, abandon, low, trimmedTo, trim}
-use Rattle.spec.specs.Steps.{requests, commits, struck, others, goOn, finished, enter, takeRequest, listRequests, looked, lookRequests, checked, check, takeCommit, listCommits, lookCommits, addCommit, leaveCommits, leaveRequests, steps, noStep, advance}
+use Rattle.spec.specs.Steps.{requestQueue, commitQueue, struck, others, goOn, finished, enter, takeRequest, listRequests, looked, lookRequests, checked, check, takeCommit, listCommits, lookCommits, addCommit, leaveCommits, leaveRequests, steps, noStep, advance}
 use Rattle.spec.specs.Run.{Call, Begin, Read, Write, Advance, Abandon, Trim, Free, perform}
 
 -- ---- arrays
@@ -91,27 +91,27 @@ pub record Tidy (c : Clients) : Type 0 where
   pub snapshot : Array Any (c .snapshot)
   pub request : Array Any (c .request)
   pub commit : Array Any (c .commit)
-  pub blockers : Array Few (c .blockers)
-  pub ahead : Array Few (c .ahead)
+  pub requestWaits : Array Few (c .requestWaits)
+  pub commitWaits : Array Few (c .commitWaits)
 
 module _ {c : Clients} (z : Tidy c) (k : ℕ) where
   tidy-stage : (g : ℕ) → g ≤ 13 → Tidy (setStage k g c)
-  tidy-stage g h = record { stage = array-set (z .stage) k g h; number = z .number; snapshot = z .snapshot; request = z .request; commit = z .commit; blockers = z .blockers; ahead = z .ahead }
+  tidy-stage g h = record { stage = array-set (z .stage) k g h; number = z .number; snapshot = z .snapshot; request = z .request; commit = z .commit; requestWaits = z .requestWaits; commitWaits = z .commitWaits }
 
   tidy-request : (n : ℕ) → Tidy (setRequest k n c)
-  tidy-request n = record { stage = z .stage; number = z .number; snapshot = z .snapshot; request = array-set (z .request) k n tt; commit = z .commit; blockers = z .blockers; ahead = z .ahead }
+  tidy-request n = record { stage = z .stage; number = z .number; snapshot = z .snapshot; request = array-set (z .request) k n tt; commit = z .commit; requestWaits = z .requestWaits; commitWaits = z .commitWaits }
 
   tidy-commit : (n : ℕ) → Tidy (setCommit k n c)
-  tidy-commit n = record { stage = z .stage; number = z .number; snapshot = z .snapshot; request = z .request; commit = array-set (z .commit) k n tt; blockers = z .blockers; ahead = z .ahead }
+  tidy-commit n = record { stage = z .stage; number = z .number; snapshot = z .snapshot; request = z .request; commit = array-set (z .commit) k n tt; requestWaits = z .requestWaits; commitWaits = z .commitWaits }
 
-  tidy-blockers : (w : ℕ) → w < 2 ^ clients → Tidy (setBlockers k w c)
-  tidy-blockers w h = record { stage = z .stage; number = z .number; snapshot = z .snapshot; request = z .request; commit = z .commit; blockers = array-set (z .blockers) k w h; ahead = z .ahead }
+  tidy-requestWaits : (w : ℕ) → w < 2 ^ clients → Tidy (setRequestWaits k w c)
+  tidy-requestWaits w h = record { stage = z .stage; number = z .number; snapshot = z .snapshot; request = z .request; commit = z .commit; requestWaits = array-set (z .requestWaits) k w h; commitWaits = z .commitWaits }
 
-  tidy-ahead : (w : ℕ) → w < 2 ^ clients → Tidy (setAhead k w c)
-  tidy-ahead w h = record { stage = z .stage; number = z .number; snapshot = z .snapshot; request = z .request; commit = z .commit; blockers = z .blockers; ahead = array-set (z .ahead) k w h }
+  tidy-commitWaits : (w : ℕ) → w < 2 ^ clients → Tidy (setCommitWaits k w c)
+  tidy-commitWaits w h = record { stage = z .stage; number = z .number; snapshot = z .snapshot; request = z .request; commit = z .commit; requestWaits = z .requestWaits; commitWaits = array-set (z .commitWaits) k w h }
 
   tidy-unlisted : Tidy (unlisted k c)
-  tidy-unlisted = record { stage = z .stage; number = z .number; snapshot = z .snapshot; request = z .request; commit = z .commit; blockers = z .blockers; ahead = array-cleared (z .ahead) k }
+  tidy-unlisted = record { stage = z .stage; number = z .number; snapshot = z .snapshot; request = z .request; commit = z .commit; requestWaits = z .requestWaits; commitWaits = array-cleared (z .commitWaits) k }
 
   tidy-opened : (n s : ℕ) → Tidy (opened k n s c)
   tidy-opened n s = record {
@@ -120,8 +120,8 @@ module _ {c : Clients} (z : Tidy c) (k : ℕ) where
     snapshot = array-set (z .snapshot) k s tt;
     request = array-set (z .request) k 0 tt;
     commit = array-set (z .commit) k 0 tt;
-    blockers = array-set (z .blockers) k 0 (omega arith);
-    ahead = array-set (z .ahead) k 0 (omega arith);
+    requestWaits = array-set (z .requestWaits) k 0 (omega arith);
+    commitWaits = array-set (z .commitWaits) k 0 (omega arith);
   }
 
   tidy-closed : Tidy (closed k c)
@@ -132,8 +132,8 @@ module _ {c : Clients} (z : Tidy c) (k : ℕ) where
     snapshot = array-set (z .snapshot) k 0 tt;
     request = array-set (z .request) k 0 tt;
     commit = array-set (z .commit) k 0 tt;
-    blockers = array-set (array-cleared (z .blockers) k) k 0 (omega arith);
-    ahead = array-set (array-cleared (z .ahead) k) k 0 (omega arith);
+    requestWaits = array-set (array-cleared (z .requestWaits) k) k 0 (omega arith);
+    commitWaits = array-set (array-cleared (z .commitWaits) k) k 0 (omega arith);
   }
 
 -- ---- images
@@ -261,11 +261,11 @@ module _ (i : Image) (h : Wellformed i) where
 abbrev Keeps : (ℕ → Image → Outcome Progress) → Type 0
 Keeps f = (k : ℕ) (i : Image) → Wellformed i → Kept i (f k i)
 
-abbrev pub Each : {A : Type 0} → (A → Type 0) → List A → Type 0
-Each Q [] = Unit {0}
-Each Q (a ∷ l) = Q a × Each Q l
+abbrev pub All : {A : Type 0} → (A → Type 0) → List A → Type 0
+All Q [] = Unit {0}
+All Q (a ∷ l) = Q a × All Q l
 
-pub each-at : {A : Type 0} (Q : A → Type 0) (l : List A) (d : A) → Each Q l → Q d → (n : ℕ) → Q (getD l n d)
+pub each-at : {A : Type 0} (Q : A → Type 0) (l : List A) (d : A) → All Q l → Q d → (n : ℕ) → Q (getD l n d)
 each-at Q [] d h g n = g
 each-at Q (a ∷ l) d h g zero = h .0
 each-at Q (a ∷ l) d h g (suc n) = each-at Q l d (h .1) g n
@@ -291,15 +291,15 @@ looked-kept g l k w i j h e = kept-if (eqb w 0) (kept (fine-clients h _ (tidy-st
 listRequests-kept : Keeps listRequests
 unfolding listRequests goOn
 listRequests-kept k i h =
-    kept (fine-clients h _ (tidy-stage (tidy-blockers (h .tidy) k _
-    (collect-lt (λ j. member (others requests k i) j && shares (i .dataRows) (numberOf i k) (numberOf i j)) clients)) k 4 (omega arith))) refl
+    kept (fine-clients h _ (tidy-stage (tidy-requestWaits (h .tidy) k _
+    (collect-lt (λ j. member (others requestQueue k i) j && shares (i .dataRows) (numberOf i k) (numberOf i j)) clients)) k 4 (omega arith))) refl
 
 lookRequests-kept : Keeps lookRequests
 unfolding lookRequests
 lookRequests-kept k i h =
-    let w : ℕ = getD (i .clients .blockers) k 0 in
-    let p : ℕ → Bool = λ j. struck requests (requestOf i k) (stageOf i j) (requestOf i j) in
-    looked-kept 5 (omega arith) k (strike p w clients) i _ (fine-clients h _ (tidy-blockers (h .tidy) k _ (omega (arith, strike-le p w clients, h .tidy .blockers .each k)))) refl
+    let w : ℕ = getD (i .clients .requestWaits) k 0 in
+    let p : ℕ → Bool = λ j. struck requestQueue (requestOf i k) (stageOf i j) (requestOf i j) in
+    looked-kept 5 (omega arith) k (strike p w clients) i _ (fine-clients h _ (tidy-requestWaits (h .tidy) k _ (omega (arith, strike-le p w clients, h .tidy .requestWaits .each k)))) refl
 
 checked-kept : (c : Number) → Keeps (checked c)
 checked-kept None k i h = goOn-kept 6 (omega arith) k i h
@@ -316,14 +316,14 @@ takeCommit-kept k i h =
 
 listCommits-kept : Keeps listCommits
 unfolding listCommits goOn others
-listCommits-kept k i h = kept (fine-clients h _ (tidy-stage (tidy-ahead (h .tidy) k _ (collect-lt _ clients)) k 10 (omega arith))) refl
+listCommits-kept k i h = kept (fine-clients h _ (tidy-stage (tidy-commitWaits (h .tidy) k _ (collect-lt _ clients)) k 10 (omega arith))) refl
 
 lookCommits-kept : Keeps lookCommits
 unfolding lookCommits
 lookCommits-kept k i h =
-    let w : ℕ = getD (i .clients .ahead) k 0 in
-    let p : ℕ → Bool = λ j. struck commits (commitNumberOf i k) (stageOf i j) (commitNumberOf i j) in
-    looked-kept 11 (omega arith) k (strike p w clients) i _ (fine-clients h _ (tidy-ahead (h .tidy) k _ (omega (arith, strike-le p w clients, h .tidy .ahead .each k)))) refl
+    let w : ℕ = getD (i .clients .commitWaits) k 0 in
+    let p : ℕ → Bool = λ j. struck commitQueue (commitNumberOf i k) (stageOf i j) (commitNumberOf i j) in
+    looked-kept 11 (omega arith) k (strike p w clients) i _ (fine-clients h _ (tidy-commitWaits (h .tidy) k _ (omega (arith, strike-le p w clients, h .tidy .commitWaits .each k)))) refl
 
 addCommit-kept : Keeps addCommit
 unfolding addCommit goOn
@@ -341,7 +341,7 @@ leaveRequests-kept : Keeps leaveRequests
 unfolding leaveRequests finished
 leaveRequests-kept k i h = kept (fine-clients h _ (tidy-closed (h .tidy) k)) refl
 
-steps-kept : Each Keeps steps
+steps-kept : All Keeps steps
 steps-kept = (
   enter-kept,
   (
@@ -407,8 +407,8 @@ empty-fine r l w h g = record {
     snapshot = array-zeros Any tt;
     request = array-zeros Any tt;
     commit = array-zeros Any tt;
-    blockers = array-zeros Few (omega arith);
-    ahead = array-zeros Few (omega arith);
+    requestWaits = array-zeros Few (omega arith);
+    commitWaits = array-zeros Few (omega arith);
   };
   dataWide = tt;
   commitWide = tt;

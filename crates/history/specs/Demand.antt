@@ -14,9 +14,9 @@ use Rattle.spec.specs.declared.Progress.the-variants.{Stage, Waiting, Conflict,
 use Rattle.spec.specs.Answers.{Answered}
 use Rattle.spec.specs.Calls.{cells}
 use Rattle.spec.specs.Bytes.{limitOf, accepts, setUp}
-use Rattle.spec.specs.Run.{Call, Begin, Read, Write, Advance, Abandon, Trim, Free, Memory, memoryOf, takes}
-use Rattle.spec.specs.Table.{Value, Values, has, Commit, Open, Table, blank, Told}
-use Rattle.spec.specs.Right.{boundsOf, valued, tells, RightRun, AllListed, AllUnfit, AllFit}
+use Rattle.spec.specs.Run.{Call, Begin, Read, Write, Advance, Abandon, Trim, Free, Memory, memoryOf, step}
+use Rattle.spec.specs.Table.{Value, Values, has, Commit, Open, Table, blank, Observed}
+use Rattle.spec.specs.Right.{boundsOf, valued, observed, RightRun, AllListed, AllUnfit, AllFit}
 use Rattle.history.specs.Afterwards.{afterRun, tableAfter}
 use Rattle.history.specs.Rounds.{NobodyWaits, WhoeverCalls, RoundsExist}
 
@@ -64,7 +64,7 @@ Waits (Conflict n) = ⊥
 Waits (Done n) = ⊥
 
 -- a call so answered does not abandon the transaction of client k; a Write of k goes to a cell as W says, an Advance of k is answered as P says
-abbrev pub Spares : (ℕ → Type 0) → (Progress → Type 0) → ℕ → (q : Call) → Told q → Type 0
+abbrev pub Spares : (ℕ → Type 0) → (Progress → Type 0) → ℕ → (q : Call) → Observed q → Type 0
 Spares W P k (Begin j) a = Unit {0}
 Spares W P k (Read j y) a = Unit {0}
 Spares W P k (Write j y v) a = j ≡ k → W y
@@ -76,7 +76,7 @@ Spares W P k Free a = Unit {0}
 -- every answered call of the list is such a call
 abbrev pub Undisturbed : (ℕ → Type 0) → (Progress → Type 0) → ℕ → Memory → List Call → Type 0
 Undisturbed W P k m [] = Unit {0}
-Undisturbed W P k m (q ∷ qs) = ((a : Told q) → tells q m ≡ Answered a → Spares W P k q a) × Undisturbed W P k (memoryOf (takes q m)) qs
+Undisturbed W P k m (q ∷ qs) = ((a : Observed q) → observed q m ≡ Answered a → Spares W P k q a) × Undisturbed W P k (memoryOf (step q m)) qs
 
 -- ---- reads of one transaction
 
@@ -89,9 +89,9 @@ abbrev pub Steady : Memory → List Call → Type 0
 Steady m qs =
     (k x : ℕ) (before between rest : List Call) (u v : Option Value)
     → qs ≡ before ++ (Read k x ∷ (between ++ (Read k x ∷ rest)))
-    → tells (Read k x) (afterRun before m) ≡ Answered u
+    → observed (Read k x) (afterRun before m) ≡ Answered u
     → Undisturbed (Besides x) GoesOn k (afterRun (before ++ (Read k x ∷ [])) m) between
-    → tells (Read k x) (afterRun (before ++ (Read k x ∷ between)) m) ≡ Answered v
+    → observed (Read k x) (afterRun (before ++ (Read k x ∷ between)) m) ≡ Answered v
     → u ≡ v
 
 -- until its commit is made, a client that has read a cell is answered again there, and alike
@@ -99,9 +99,9 @@ abbrev pub Unbroken : Memory → List Call → Type 0
 Unbroken m qs =
     (k x : ℕ) (before between rest : List Call) (u : Option Value)
     → qs ≡ before ++ (Read k x ∷ (between ++ (Read k x ∷ rest)))
-    → tells (Read k x) (afterRun before m) ≡ Answered u
+    → observed (Read k x) (afterRun before m) ≡ Answered u
     → Undisturbed (Besides x) Waits k (afterRun (before ++ (Read k x ∷ [])) m) between
-    → tells (Read k x) (afterRun (before ++ (Read k x ∷ between)) m) ≡ Answered u
+    → observed (Read k x) (afterRun (before ++ (Read k x ∷ between)) m) ≡ Answered u
 
 -- ---- an enquiry
 
@@ -117,9 +117,9 @@ abbrev pub Enquiry : Memory → List Call → Type 0
 Enquiry m qs =
     (k : ℕ) (before between rest : List Call) (b : Begun)
     → qs ≡ before ++ (Begin k ∷ (between ++ (Advance k ∷ rest)))
-    → tells (Begin k) (afterRun before m) ≡ Answered b
+    → observed (Begin k) (afterRun before m) ≡ Answered b
     → Undisturbed Nowhere Never k (afterRun (before ++ (Begin k ∷ [])) m) between
-    → tells (Advance k) (afterRun (before ++ (Begin k ∷ between)) m) ≡ Answered (Done (b .snapshot))
+    → observed (Advance k) (afterRun (before ++ (Begin k ∷ between)) m) ≡ Answered (Done (b .snapshot))
 
 -- ---- the demand
 

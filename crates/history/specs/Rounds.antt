@@ -15,9 +15,9 @@ use Rattle.spec.specs.Set.{clients}
 use Rattle.spec.specs.declared.Progress.{Progress}
 use Rattle.spec.specs.declared.Progress.the-variants.{Stage, Waiting, Conflict, Done}
 use Rattle.spec.specs.Answers.{Answer, Answered, Refused}
-use Rattle.spec.specs.Run.{Call, Begin, Read, Write, Advance, Abandon, Trim, Free, Memory, memoryOf, takes}
-use Rattle.spec.specs.Table.{Open, Table, blank, Told}
-use Rattle.spec.specs.Right.{tells}
+use Rattle.spec.specs.Run.{Call, Begin, Read, Write, Advance, Abandon, Trim, Free, Memory, memoryOf, step}
+use Rattle.spec.specs.Table.{Open, Table, blank, Observed}
+use Rattle.spec.specs.Right.{observed}
 use Rattle.history.specs.Afterwards.{afterRun, tableAfter}
 
 -- ---- "where only clients below n are named"
@@ -48,43 +48,43 @@ pub data Fate : Type 0 where
   Closed : Fate
   Abandoned : Fate
 
-abbrev pub over : Fate → Bool
-over StillOpen = false
-over Closed = true
-over Abandoned = true
+abbrev pub isOver : Fate → Bool
+isOver StillOpen = false
+isOver Closed = true
+isOver Abandoned = true
 
 -- by the answer to its Advance, and to its Abandon
-abbrev pub advanced : Answer Progress → Fate
-advanced (Answered (Stage g)) = StillOpen
-advanced (Answered (Waiting n)) = StillOpen
-advanced (Answered (Conflict n)) = Closed
-advanced (Answered (Done n)) = Closed
-advanced (Refused n) = StillOpen
+abbrev pub byAdvance : Answer Progress → Fate
+byAdvance (Answered (Stage g)) = StillOpen
+byAdvance (Answered (Waiting n)) = StillOpen
+byAdvance (Answered (Conflict n)) = Closed
+byAdvance (Answered (Done n)) = Closed
+byAdvance (Refused n) = StillOpen
 
-abbrev pub abandoned : Answer ℕ → Fate
-abandoned (Answered n) = Abandoned
-abandoned (Refused n) = StillOpen
+abbrev pub byAbandon : Answer ℕ → Fate
+byAbandon (Answered n) = Abandoned
+byAbandon (Refused n) = StillOpen
 
 -- by a call so answered, if it is client k's
-abbrev pub fateBy : ℕ → (q : Call) → Answer (Told q) → Fate
+abbrev pub fateBy : ℕ → (q : Call) → Answer (Observed q) → Fate
 fateBy k (Begin j) a = StillOpen
 fateBy k (Read j x) a = StillOpen
 fateBy k (Write j x v) a = StillOpen
-fateBy k (Advance j) a = if eqb j k then advanced a else StillOpen
-fateBy k (Abandon j) a = if eqb j k then abandoned a else StillOpen
+fateBy k (Advance j) a = if eqb j k then byAdvance a else StillOpen
+fateBy k (Abandon j) a = if eqb j k then byAbandon a else StillOpen
 fateBy k Trim a = StillOpen
 fateBy k Free a = StillOpen
 
 -- the first call that ends it decides
-abbrev pub first : Fate → Fate → Fate
-first StillOpen f = f
-first Closed f = Closed
-first Abandoned f = Abandoned
+abbrev pub earlier : Fate → Fate → Fate
+earlier StillOpen f = f
+earlier Closed f = Closed
+earlier Abandoned f = Abandoned
 
 -- by a list of calls, if it is the one that client k has open
 abbrev pub fate : ℕ → Memory → List Call → Fate
 fate k m [] = StillOpen
-fate k m (q ∷ qs) = first (fateBy k q (tells q m)) (fate k (memoryOf (takes q m)) qs)
+fate k m (q ∷ qs) = earlier (fateBy k q (observed q m)) (fate k (memoryOf (step q m)) qs)
 
 -- ---- "Call it a round when every client at stages 1 to 13 at its start is advanced at least once or closed before its end."
 
@@ -93,23 +93,23 @@ abbrev pub Queued : Table → ℕ → Type 0
 Queued t k = (o : Open) × (t .clients k ≡ some o) × (1 ≤ o .stage) × (o .stage ≤ 13)
 
 -- the call is an Advance of client k
-abbrev pub advances : ℕ → Call → Bool
-advances k (Begin j) = false
-advances k (Read j x) = false
-advances k (Write j x v) = false
-advances k (Advance j) = eqb j k
-advances k (Abandon j) = false
-advances k Trim = false
-advances k Free = false
+abbrev pub isAdvance : ℕ → Call → Bool
+isAdvance k (Begin j) = false
+isAdvance k (Read j x) = false
+isAdvance k (Write j x v) = false
+isAdvance k (Advance j) = eqb j k
+isAdvance k (Abandon j) = false
+isAdvance k Trim = false
+isAdvance k Free = false
 
 -- client k is advanced by a call so answered, whatever the answer, or closed by it
-abbrev pub serves : ℕ → (q : Call) → Answer (Told q) → Bool
-serves k q a = advances k q || over (fateBy k q a)
+abbrev pub serves : ℕ → (q : Call) → Answer (Observed q) → Bool
+serves k q a = isAdvance k q || isOver (fateBy k q a)
 
 -- by one of the calls
 abbrev pub served : ℕ → Memory → List Call → Bool
 served k m [] = false
-served k m (q ∷ qs) = serves k q (tells q m) || served k (memoryOf (takes q m)) qs
+served k m (q ∷ qs) = serves k q (observed q m) || served k (memoryOf (step q m)) qs
 
 abbrev pub Round : Memory → Table → List Call → Type 0
 Round m t qs = (k : ℕ) → Queued t k → served k m qs ≡ true
@@ -122,8 +122,8 @@ Rounds m t (r ∷ rs) = Round m t r × Rounds (afterRun r m) (tableAfter r m t) 
 -- ---- the limit
 
 -- "4 × n × n + 32"
-abbrev pub limit : ℕ → ℕ
-limit n = 4 * n * n + 32
+abbrev pub roundLimit : ℕ → ℕ
+roundLimit n = 4 * n * n + 32
 
 -- "a transaction that has entered the request queue and isn't abandoned is closed, Done or Conflict, within" so many rounds
 abbrev pub ClosedWithin : ℕ → Memory → Table → List (List Call) → Type 0
@@ -135,7 +135,7 @@ ClosedWithin most m t rounds =
 abbrev pub NobodyWaits : Memory → List Call → Type 0
 NobodyWaits m qs =
     (n : ℕ) → AllBelow n qs → (rounds : List (List Call)) → AllBelow n (flatten rounds)
-    → ClosedWithin (limit n) (afterRun qs m) (tableAfter qs m blank) rounds
+    → ClosedWithin (roundLimit n) (afterRun qs m) (tableAfter qs m blank) rounds
 
 -- document 02, 12: "The limit on rounds becomes 16,416 by the same formula": whoever is named
 abbrev pub WhoeverCalls : Memory → List Call → Type 0

@@ -18,7 +18,7 @@ use Rattle.orderly.proofs.Order.{differ, both-ways, if-left, if-right, some-fro
 use Rattle.search.proofs.Folds.{any-at, own-yes}
 use Rattle.spec.specs.Trim.{between, later, overtaken, stays}
 use Rattle.spec.specs.Orderly.{orderlyCommits}
-use Rattle.spec.specs.Served.{serves, served}
+use Rattle.spec.specs.Marked.{marksCell, marked}
 
 module _ (m : ℕ) (c : List ℕ) (e : orderlyCommits (rowsIn 8 m c) ≡ true) where
   module _ (low n : ℕ) (s : List ℕ) (x j : ℕ) (h : j < m) where
@@ -31,9 +31,9 @@ module _ (m : ℕ) (c : List ℕ) (e : orderlyCommits (rowsIn 8 m c) ≡ true) w
     abbrev own : ℕ
     own = commitNumber (rowAt 8 j c)
 
-    later-served : any (later cs low x own) ds ≡ true → served low ds (rowsFrom 8 m (j + 1) c) x ≡ true
-    unfolding later between served serves wrote
-    later-served f = some-in (later cs low x own) 24 n s (served low ds (rowsFrom 8 m (j + 1) c) x ≡ true) f row
+    later-served : any (later cs low x own) ds ≡ true → marked low ds (rowsFrom 8 m (j + 1) c) x ≡ true
+    unfolding later between marked marksCell wrote
+    later-served f = some-in (later cs low x own) 24 n s (marked low ds (rowsFrom 8 m (j + 1) c) x ≡ true) f row
       where
         behind : (k : ℕ) → k < m → own < commitNumber (rowAt 8 k c) → j + 1 ≤ k
         behind k g l = go (decLt j k) (decLt k j)
@@ -46,24 +46,24 @@ module _ (m : ℕ) (c : List ℕ) (e : orderlyCommits (rowsIn 8 m c) ≡ true) w
                 absurd (omega (arith, rw z at l))
 
         number : (i : ℕ) → i < n → cellOf (rowAt 24 i s) ≡ x → (t : Number) → commitOf (tagOf (rowAt 24 i s)) cs ≡ t → between own low t ≡ true
-            → served low ds (rowsFrom 8 m (j + 1) c) x ≡ true
+            → marked low ds (rowsFrom 8 m (j + 1) c) x ≡ true
         number i g q None y z = absurd (differ z refl)
         number i g q (Some v) y z =
-            committed m c e (served low ds (rowsFrom 8 m (j + 1) c) x ≡ true) (tagOf (rowAt 24 i s)) v y
-            (λ k l t u. from-at (serves low ds x) 8 m c (j + 1) k
+            committed m c e (marked low ds (rowsFrom 8 m (j + 1) c) x ≡ true) (tagOf (rowAt 24 i s)) v y
+            (λ k l t u. from-at (marksCell low ds x) 8 m c (j + 1) k
             (behind k l (rw u (ltb-true own v (if-left (ltb own v) (leb v low) z)))) l
             (rw (u, if-right (ltb own v) (leb v low) z) (any-at (isOwn (commitTag (rowAt 8 k c)) x) 24 n s i g
             (own-yes (commitTag (rowAt 8 k c)) x (rowAt 24 i s) (sym t) q))))
 
-        row : (i : ℕ) → i < n → later cs low x own (rowAt 24 i s) ≡ true → served low ds (rowsFrom 8 m (j + 1) c) x ≡ true
+        row : (i : ℕ) → i < n → later cs low x own (rowAt 24 i s) ≡ true → marked low ds (rowsFrom 8 m (j + 1) c) x ≡ true
         row i g q =
             let b : Bool = between own low (commitOf (tagOf (rowAt 24 i s)) cs) in
             number i g (eqb-true (cellOf (rowAt 24 i s)) x (if-left (eqb (cellOf (rowAt 24 i s)) x) b q)) (commitOf (tagOf (rowAt 24 i s)) cs) refl
             (if-right (eqb (cellOf (rowAt 24 i s)) x) b q)
 
-    served-later : served low ds (rowsFrom 8 m (j + 1) c) x ≡ true → any (later cs low x own) ds ≡ true
-    unfolding later between served serves wrote isOwn
-    served-later f = some-from (serves low ds x) 8 m c (any (later cs low x own) ds ≡ true) (j + 1) f commit
+    served-later : marked low ds (rowsFrom 8 m (j + 1) c) x ≡ true → any (later cs low x own) ds ≡ true
+    unfolding later between marked marksCell wrote isOwn
+    served-later f = some-from (marksCell low ds x) 8 m c (any (later cs low x own) ds ≡ true) (j + 1) f commit
       where
         row : (k : ℕ) → j + 1 ≤ k → k < m → commitNumber (rowAt 8 k c) ≤ low → (i : ℕ) → i < n → isOwn (commitTag (rowAt 8 k c)) x (rowAt 24 i s)
             ≡ true → any (later cs low x own) ds ≡ true
@@ -81,15 +81,15 @@ module _ (m : ℕ) (c : List ℕ) (e : orderlyCommits (rowsIn 8 m c) ≡ true) w
               le-leb (commitNumber (rowAt 8 k c)) low b,
             ))
 
-        commit : (k : ℕ) → j + 1 ≤ k → k < m → serves low ds x (rowAt 8 k c) ≡ true → any (later cs low x own) ds ≡ true
+        commit : (k : ℕ) → j + 1 ≤ k → k < m → marksCell low ds x (rowAt 8 k c) ≡ true → any (later cs low x own) ds ≡ true
         commit k l g q =
             let b : Bool = any (isOwn (commitTag (rowAt 8 k c)) x) ds in
             some-in (isOwn (commitTag (rowAt 8 k c)) x) 24 n s (any (later cs low x own) ds ≡ true) (if-right (leb (commitNumber (rowAt 8 k c)) low) b q)
             (row k l g (leb-true _ _ (if-left (leb (commitNumber (rowAt 8 k c)) low) b q)))
 
     -- a row of committed row j stays just if its cell is not served from the next one on
-    pub stays-served : (r : Row) → tagOf r ≡ commitTag (rowAt 8 j c) → cellOf r ≡ x → stays low ds cs r ≡ not (served low ds (rowsFrom 8 m (j + 1) c) x)
+    pub stays-served : (r : Row) → tagOf r ≡ commitTag (rowAt 8 j c) → cellOf r ≡ x → stays low ds cs r ≡ not (marked low ds (rowsFrom 8 m (j + 1) c) x)
     unfolding stays overtaken
     stays-served r t q =
         rw (number-of m c e j (tagOf r) h (sym t), q) (ap not (both-ways (any (later cs low x own) ds)
-        (served low ds (rowsFrom 8 m (j + 1) c) x) later-served served-later))
+        (marked low ds (rowsFrom 8 m (j + 1) c) x) later-served served-later))

@@ -17,9 +17,9 @@ use Rattle.spec.specs.Share.{any}
 use Rattle.search.proofs.Folds.{if-same, if-itself, any-step, any-end, any-at, commit-none, tag-yes, tag-no, to-start}
 use Rattle.removal.specs.Inner.{Flags}
 use Rattle.spec.specs.Trim.{overtaken, stays, inUse, trimmedRows}
-use Rattle.orderly.specs.Inner.{rowEntry, RowEntries, Plain}
-use Rattle.spec.specs.Orderly.{commits, orderlyCommits, orderlyRows}
-use Rattle.spec.specs.Served.{serves, served, Marks}
+use Rattle.orderly.specs.Inner.{rowEntry, RowEntries, Sole}
+use Rattle.spec.specs.Orderly.{isCommitOf, orderlyCommits, orderlyRows}
+use Rattle.spec.specs.Marked.{marksCell, marked, Marks}
 use Rattle.marking.specs.Inner.{Judged, Used, SoFar}
 use Rattle.orderly.proofs.Order.{differ, both-ways, some-in, alone, plain-more, plain-end}
 use Rattle.marking.proofs.Later.{stays-served}
@@ -92,11 +92,11 @@ flip false = refl
 
 module _ (low n m : ℕ) (s c : List ℕ) where
   abbrev Served : ℕ → ℕ → Bool
-  Served j x = served low (rowsIn 24 n s) (rowsFrom 8 m j c) x
+  Served j x = marked low (rowsIn 24 n s) (rowsFrom 8 m j c) x
 
   served-end : (j x : ℕ) → m ≤ j → Served j x ≡ false
-  unfolding served
-  served-end j x h = any-end (serves low (rowsIn 24 n s) x) 8 m j c h
+  unfolding marked
+  served-end j x h = any-end (marksCell low (rowsIn 24 n s) x) 8 m j c h
 
   pub marks-start : Marks low n m s c m (replicate 1024 0)
   marks-start =
@@ -110,25 +110,25 @@ module _ (low n m : ℕ) (s c : List ℕ) where
   judged-start b =
       record {
         size = length-replicate {A = ℕ} 1024 1;
-        each = λ i h. rw (getD-replicate {A = ℕ} 1024 i 1 0 (omega arith), any-end (commits (tagOf (rowAt 24 i s))) 8 m m c (omega arith));
+        each = λ i h. rw (getD-replicate {A = ℕ} 1024 i 1 0 (omega arith), any-end (isCommitOf (tagOf (rowAt 24 i s))) 8 m m c (omega arith));
       }
 
   -- a row that no committed row has the tag of stays
-  uncommitted : (r : Row) → any (commits (tagOf r)) (rowsIn 8 m c) ≡ false → stays low (rowsIn 24 n s) (rowsIn 8 m c) r ≡ true
-  unfolding stays overtaken commits
+  uncommitted : (r : Row) → any (isCommitOf (tagOf r)) (rowsIn 8 m c) ≡ false → stays low (rowsIn 24 n s) (rowsIn 8 m c) r ≡ true
+  unfolding stays overtaken isCommitOf
   uncommitted r e = rw (commit-none (tagOf r) m c none)
     where
       none : (k : ℕ) → k < m → commitTag (rowAt 8 k c) ≡ tagOf r → ⊥
-      none k h f = differ (any-at (commits (tagOf r)) 8 m c k h (eq-eqb (commitTag (rowAt 8 k c)) (tagOf r) f)) e
+      none k h f = differ (any-at (isCommitOf (tagOf r)) 8 m c k h (eq-eqb (commitTag (rowAt 8 k c)) (tagOf r) f)) e
 
   pub judged-end : (flags : List ℕ) → Judged low n m s c 0 flags → Flags (stays low (rowsIn 24 n s) (rowsIn 8 m c)) 24 n s flags
   judged-end flags g = record {
     size = g .size;
     each = λ k h. rw (← rows-start 8 m c) at (g .each k h) ∙ go k
-        (any (commits (tagOf (rowAt 24 k s))) (rowsIn 8 m c)) refl;
+        (any (isCommitOf (tagOf (rowAt 24 k s))) (rowsIn 8 m c)) refl;
   }
     where
-      go : (k : ℕ) (b : Bool) → any (commits (tagOf (rowAt 24 k s))) (rowsIn 8 m c) ≡ b
+      go : (k : ℕ) (b : Bool) → any (isCommitOf (tagOf (rowAt 24 k s))) (rowsIn 8 m c) ≡ b
           → _≡_ {A = ℕ} (if b then (if stays low (rowsIn 24 n s) (rowsIn 8 m c) (rowAt 24 k s) then 1 else 0) else 1)
           (if stays low (rowsIn 24 n s) (rowsIn 8 m c) (rowAt 24 k s) then 1 else 0)
       go k true e = refl
@@ -155,16 +155,16 @@ module _ (low n m : ℕ) (s c : List ℕ) where
 
   -- every row is plain: those of committed transactions, and the others
   pub all-plain : (seen entry : List ℕ) → SoFar n m s c 0 seen → RowEntries n m s c entry →
-      ((k : ℕ) → k < n → getD entry k 0 ≡ m → Plain n s k)
+      ((k : ℕ) → k < n → getD entry k 0 ≡ m → Sole n s k)
       → orderlyRows (rowsIn 24 n s) ≡ true
   all-plain seen entry d t rest =
       rw (rows-start 24 n s)
       (to-start (λ i. orderlyRows (rowsFrom 24 n i s) ≡ true) n (plain-end n s) (λ i h e. plain-more n s i h (plain i h .small) (plain i h .alone) e))
     where
-      plain : (k : ℕ) → k < n → Plain n s k
+      plain : (k : ℕ) → k < n → Sole n s k
       plain k h = go (decLt (rowEntry m c s k) m)
         where
-          go : Dec (rowEntry m c s k < m) → Plain n s k
+          go : Dec (rowEntry m c s k < m) → Sole n s k
           go (yes l) = d .plain k h (omega arith) l
           go (no l) = rest k h (omega (arith, t .each k h, l, entry-next (tagOf (rowAt 24 k s)) m c .end))
 
@@ -172,9 +172,9 @@ module _ (low n m : ℕ) (s c : List ℕ) where
     abbrev own : ℕ
     own = commitTag (rowAt 8 j c)
 
-    served-step : (x : ℕ) → Served j x ≡ (if serves low (rowsIn 24 n s) x (rowAt 8 j c) then true else Served (j + 1) x)
-    unfolding served
-    served-step x = any-step (serves low (rowsIn 24 n s) x) 8 m j c h
+    served-step : (x : ℕ) → Served j x ≡ (if marksCell low (rowsIn 24 n s) x (rowAt 8 j c) then true else Served (j + 1) x)
+    unfolding marked
+    served-step x = any-step (marksCell low (rowsIn 24 n s) x) 8 m j c h
 
     module _ (marks₀ : List ℕ) (g : Marks low n m s c (j + 1) marks₀) where
       unmarked : (x : ℕ) → x < 1024 → ltb 0 (getD marks₀ x 0) ≡ ltb (j + 1) (getD marks₀ x 0)
@@ -182,7 +182,7 @@ module _ (low n m : ℕ) (s c : List ℕ) where
 
       -- the row marks what it serves
       marks-more : (marks : List ℕ) → length marks ≡ 1024
-          → ((x : ℕ) → x < 1024 → getD marks x 0 ≡ due (j + 1) (serves low (rowsIn 24 n s) x (rowAt 8 j c)) (getD marks₀ x 0)) → Marks low n m s c j marks
+          → ((x : ℕ) → x < 1024 → getD marks x 0 ≡ due (j + 1) (marksCell low (rowsIn 24 n s) x (rowAt 8 j c)) (getD marks₀ x 0)) → Marks low n m s c j marks
       marks-more marks e new =
           record {
             size = e;
@@ -192,11 +192,11 @@ module _ (low n m : ℕ) (s c : List ℕ) where
         where
           at-most : (x : ℕ) → x < 1024 → (k : ℕ) → k ≤ j → ltb k (getD marks x 0) ≡ Served j x
           at-most x l k a =
-              rw (new x l, served-step x, ← g .so-far x l) (due-below (getD marks₀ x 0) j (unmarked x l) (serves low (rowsIn 24 n s) x (rowAt 8 j c)) k a)
+              rw (new x l, served-step x, ← g .so-far x l) (due-below (getD marks₀ x 0) j (unmarked x l) (marksCell low (rowsIn 24 n s) x (rowAt 8 j c)) k a)
 
           after : (k x : ℕ) → j ≤ k → x < 1024 → Dec (j < k) → ltb k (getD marks x 0) ≡ Served k x
           after k x a l (yes d) =
-              rw (new x l) (due-above (getD marks₀ x 0) j (unmarked x l) (serves low (rowsIn 24 n s) x (rowAt 8 j c)) k (omega arith)
+              rw (new x l) (due-above (getD marks₀ x 0) j (unmarked x l) (marksCell low (rowsIn 24 n s) x (rowAt 8 j c)) k (omega arith)
               ∙ g .after-each k x (omega arith) l)
           after k x a l (no d) =
               let z : k ≡ j = omega (arith, a, d) in
@@ -219,7 +219,7 @@ module _ (low n m : ℕ) (s c : List ℕ) where
             unjudged i l q = f .each i l ∙ rw (q, alone m c ordered j h)
 
             each : (i : ℕ) → i < n → Dec (tagOf (rowAt 24 i s) ≡ own)
-                → judge own (j + 1) s marks₀ flags₀ i ≡ (if any (commits (tagOf (rowAt 24 i s))) (rowsFrom 8 m j c) then
+                → judge own (j + 1) s marks₀ flags₀ i ≡ (if any (isCommitOf (tagOf (rowAt 24 i s))) (rowsFrom 8 m j c) then
                 (if stays low (rowsIn 24 n s) (rowsIn 8 m c) (rowAt 24 i s) then 1 else 0) else 1)
             each i l (yes q) =
                 rw (tag-yes own (rowAt 24 i s) q, tag-here (tagOf (rowAt 24 i s)) m j c h (sym q), unjudged i l q, stays-unmarked i l q)
@@ -258,11 +258,11 @@ module _ (low n m : ℕ) (s c : List ℕ) where
           (sv : Serving (leb (commitNumber (rowAt 8 j c)) low) own (j + 1) n j s marks₀ flags₀ uses₀ marks flags uses i)
           (st : Stamped own (j + 1) n s seen₀ seen i) where
         pub marks-done : Marks low n m s c j marks
-        unfolding serves
+        unfolding marksCell
         marks-done = marks-more marks (sv .marks-size) (serving-marks (leb (commitNumber (rowAt 8 j c)) low) own
             (j + 1) n j s marks₀ flags₀ uses₀ marks flags uses i e sv)
 
-        plain : (k : ℕ) → k < n → tagOf (rowAt 24 k s) ≡ own → Plain n s k
+        plain : (k : ℕ) → k < n → tagOf (rowAt 24 k s) ≡ own → Sole n s k
         plain = stamped-plain own (j + 1) n s seen₀ seen i e st
 
         pub judged-done : Judged low n m s c (j + 1) flags₀ → Judged low n m s c j flags
@@ -283,6 +283,6 @@ module _ (low n m : ℕ) (s c : List ℕ) where
               plain = λ k l a b. rest k l a b (ℕ-discrete (rowEntry m c s k) j);
             }
           where
-            rest : (k : ℕ) → k < n → j ≤ rowEntry m c s k → rowEntry m c s k < m → Dec (rowEntry m c s k ≡ j) → Plain n s k
+            rest : (k : ℕ) → k < n → j ≤ rowEntry m c s k → rowEntry m c s k < m → Dec (rowEntry m c s k ≡ j) → Sole n s k
             rest k l a b (yes z) = plain k l (entry-tag m c s k j h z)
             rest k l a b (no z) = d .plain k l (omega (arith, a, z)) b

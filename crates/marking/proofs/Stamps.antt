@@ -16,7 +16,7 @@ use Rattle.spec.specs.Look.{isOwn}
 use Rattle.spec.specs.Share.{wrote}
 use Rattle.search.proofs.Folds.{own-yes}
 use Rattle.spec.specs.Orderly.{orderlyRows}
-use Rattle.orderly.specs.Inner.{Plain}
+use Rattle.orderly.specs.Inner.{Sole}
 use Rattle.orderly.proofs.Order.{differ, if-left, if-right, some-from, from-at, displain, plain-twice}
 
 -- Rows before i are done: the cells of those with the tag are below 1,024 and differ, and exactly they are stamped. seen₀ is what was stamped before.
@@ -109,7 +109,7 @@ module _ (tag mark n : ℕ) (s seen₀ : List ℕ) where
 
   -- all rows are done
   module _ (seen : List ℕ) (i : ℕ) (h : n ≤ i) (m : Stamped tag mark n s seen₀ seen i) where
-    pub stamped-plain : (k : ℕ) → k < n → tagOf (rowAt 24 k s) ≡ tag → Plain n s k
+    pub stamped-plain : (k : ℕ) → k < n → tagOf (rowAt 24 k s) ≡ tag → Sole n s k
     unfolding wrote isOwn
     stamped-plain k l t = record {
       small = m .small k (omega arith) t;

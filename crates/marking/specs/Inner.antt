@@ -8,8 +8,8 @@ use Rattle.spec.specs.Choice.{if_then_else_}
 use Rattle.spec.specs.Rows.{rowAt, rowsIn, rowsFrom, tagOf}
 use Rattle.spec.specs.Share.{any}
 use Rattle.spec.specs.Trim.{stays, inUse, trimmedRows}
-use Rattle.orderly.specs.Inner.{rowEntry, Plain}
-use Rattle.spec.specs.Orderly.{commits}
+use Rattle.orderly.specs.Inner.{rowEntry, Sole}
+use Rattle.spec.specs.Orderly.{isCommitOf}
 
 -- ---- What is known while committed rows are gone through from the last to the first, for the inner functions' promises.
 
@@ -17,7 +17,7 @@ use Rattle.spec.specs.Orderly.{commits}
 pub record Judged (low n m : ℕ) (s c : List ℕ) (j : ℕ) (flags : List ℕ) : Type 0 where
   pub size : length flags ≡ 1024
   pub each : (i : ℕ) → i < n
-      → getD flags i 0 ≡ (if any (commits (tagOf (rowAt 24 i s))) (rowsFrom 8 m j c) then (if stays low (rowsIn 24 n s) (rowsIn 8 m c) (rowAt 24 i s) then 1 else 0) else 1)
+      → getD flags i 0 ≡ (if any (isCommitOf (tagOf (rowAt 24 i s))) (rowsFrom 8 m j c) then (if stays low (rowsIn 24 n s) (rowsIn 8 m c) (rowAt 24 i s) then 1 else 0) else 1)
 
 -- the committed rows' flags after committed row j: from row j on they are right, before it they are 0
 pub record Used (low n m : ℕ) (s c : List ℕ) (j : ℕ) (uses : List ℕ) : Type 0 where
@@ -30,4 +30,4 @@ pub record Used (low n m : ℕ) (s c : List ℕ) (j : ℕ) (uses : List ℕ) : T
 pub record SoFar (n m : ℕ) (s c : List ℕ) (j : ℕ) (seen : List ℕ) : Type 0 where
   pub room : length seen ≡ 1024
   pub fresh : (x k : ℕ) → x < 1024 → k < j → getD seen x 0 ≡ k + 1 → ⊥
-  pub plain : (k : ℕ) → k < n → j ≤ rowEntry m c s k → rowEntry m c s k < m → Plain n s k
+  pub plain : (k : ℕ) → k < n → j ≤ rowEntry m c s k → rowEntry m c s k < m → Sole n s k

@@ -8,7 +8,7 @@ ghost use Rattle.spec.specs.Rows.{rowsIn};
 ghost use Rattle.trimming.specs.Inner.{Trimmed};
 ghost use Rattle.spec.specs.Orderly.{orderlyCommits, orderlyRows, orderly};
 ghost use Rattle.orderly.specs.Inner.{RowsLinked};
-ghost use Rattle.spec.specs.Served.{Marks, Worked};
+ghost use Rattle.spec.specs.Marked.{Marks, Worked};
 ghost use Rattle.marking.specs.Inner.{SoFar, Judged, Used};
 use trimming::Remaining;
 

@@ -19,7 +19,7 @@ use Rattle.search.specs.Inner.{Next}
 use Rattle.search.proofs.Folds.{to-start}
 use Rattle.trimming.specs.Inner.{place}
 use Rattle.orderly.specs.Inner.{tagPlace, entryOf, rowEntry, Linked, RowEntries, Alike}
-use Rattle.spec.specs.Orderly.{commits, orderlyCommits}
+use Rattle.spec.specs.Orderly.{isCommitOf, orderlyCommits}
 use Rattle.orderly.proofs.Nexts.{next-none, next-here, next-past, next-one}
 use Rattle.orderly.proofs.Order.{both-ways, some-from, from-at, distinct}
 
@@ -79,19 +79,19 @@ module _ (tag m : ℕ) (c : List ℕ) where
       misses k a b (no g) f = p .misses k (omega (arith, g)) b f
 
   -- a row from i on has the tag just if there is a next one
-  pub tag-next : (i r : ℕ) → Next (λ k. commitTag (rowAt 8 k c) ≡ tag) i m r → any (commits tag) (rowsFrom 8 m i c) ≡ ltb r m
-  unfolding commits
-  tag-next i r p = both-ways (any (commits tag) (rowsFrom 8 m i c)) (ltb r m) there back
+  pub tag-next : (i r : ℕ) → Next (λ k. commitTag (rowAt 8 k c) ≡ tag) i m r → any (isCommitOf tag) (rowsFrom 8 m i c) ≡ ltb r m
+  unfolding isCommitOf
+  tag-next i r p = both-ways (any (isCommitOf tag) (rowsFrom 8 m i c)) (ltb r m) there back
     where
-      there : any (commits tag) (rowsFrom 8 m i c) ≡ true → ltb r m ≡ true
-      there e = some-from (commits tag) 8 m c (ltb r m ≡ true) i e (λ k a b f. lt-ltb r m (below k a b (eqb-true _ _ f) (decLt r m)))
+      there : any (isCommitOf tag) (rowsFrom 8 m i c) ≡ true → ltb r m ≡ true
+      there e = some-from (isCommitOf tag) 8 m c (ltb r m ≡ true) i e (λ k a b f. lt-ltb r m (below k a b (eqb-true _ _ f) (decLt r m)))
         where
           below : (k : ℕ) → i ≤ k → k < m → commitTag (rowAt 8 k c) ≡ tag → Dec (r < m) → r < m
           below k a b f (yes l) = l
           below k a b f (no l) = absurd (p .misses k a (omega (arith, l)) f)
 
-      back : ltb r m ≡ true → any (commits tag) (rowsFrom 8 m i c) ≡ true
-      back e = from-at (commits tag) 8 m c i r (p .start) (ltb-true r m e) (eq-eqb (commitTag (rowAt 8 r c)) tag (p .hit (ltb-true r m e)))
+      back : ltb r m ≡ true → any (isCommitOf tag) (rowsFrom 8 m i c) ≡ true
+      back e = from-at (isCommitOf tag) 8 m c i r (p .start) (ltb-true r m e) (eq-eqb (commitTag (rowAt 8 r c)) tag (p .hit (ltb-true r m e)))
 
 -- one value more is stored, from the last to the first
 pub stored-less : (F : ℕ → ℕ) (s : List ℕ) (n i v : ℕ) → i < length s → ((k : ℕ) → i < k → k < n → getD s k 0 ≡ F k) → v ≡ F i

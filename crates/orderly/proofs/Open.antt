@@ -13,7 +13,7 @@ use Rattle.spec.specs.Rows.{rowAt, rowsIn, rowsFrom, tagOf, cellOf}
 use Rattle.spec.specs.Share.{wrote}
 use Rattle.search.specs.Inner.{Next}
 use Rattle.trimming.specs.Inner.{place}
-use Rattle.orderly.specs.Inner.{pairPlace, openPlace, Linked, Alike, PairWalk, Plain}
+use Rattle.orderly.specs.Inner.{pairPlace, openPlace, Linked, Alike, PairWalk, Sole}
 use Rattle.spec.specs.Orderly.{orderlyRows}
 use Rattle.orderly.proofs.Chains.{linked-none, linked-less, chain-start, head-skip}
 use Rattle.orderly.proofs.Walks.{own-miss}
@@ -23,7 +23,7 @@ use Rattle.orderly.proofs.Order.{displain, plain-large, plain-twice}
 pub record Tested (n m : ℕ) (s entry heads nexts : List ℕ) (i : ℕ) : Type 0 where
   pub end : i ≤ n
   pub linked : Linked (openPlace m entry s) n i heads nexts
-  pub plain : (k : ℕ) → i ≤ k → k < n → getD entry k 0 ≡ m → Plain n s k
+  pub plain : (k : ℕ) → i ≤ k → k < n → getD entry k 0 ≡ m → Sole n s k
 
 -- row k is not committed; its tag, its cell and its place are these
 pub record OpenRow (n m : ℕ) (s entry : List ℕ) (k tag cell x : ℕ) : Type 0 where
@@ -40,10 +40,10 @@ module _ (n m : ℕ) (s entry : List ℕ) where
 
   -- all are tested from the first one on
   pub tested-all : (heads nexts : List ℕ) (i first : ℕ) → i ≤ first → Tested n m s entry heads nexts i → Next (λ k. getD entry k 0 ≡ m) 0 n first
-      → (k : ℕ) → k < n → getD entry k 0 ≡ m → Plain n s k
+      → (k : ℕ) → k < n → getD entry k 0 ≡ m → Sole n s k
   tested-all heads nexts i first l t p k h e = go (decLt k first)
     where
-      go : Dec (k < first) → Plain n s k
+      go : Dec (k < first) → Sole n s k
       go (yes b) = absurd (p .misses k (omega arith) b e)
       go (no b) = t .plain k (omega (arith, b)) h e
 
@@ -55,10 +55,10 @@ module _ (n m : ℕ) (s entry : List ℕ) where
   no-place k ne = rw (ne-eqb (getD entry k 0) m ne) (omega arith)
 
   module _ (heads nexts : List ℕ) (k : ℕ) (t : Tested n m s entry heads nexts (k + 1)) where
-    plain-too : (getD entry k 0 ≡ m → Plain n s k) → (j : ℕ) → k ≤ j → j < n → getD entry j 0 ≡ m → Plain n s j
+    plain-too : (getD entry k 0 ≡ m → Sole n s k) → (j : ℕ) → k ≤ j → j < n → getD entry j 0 ≡ m → Sole n s j
     plain-too p j a b e = go (ℕ-discrete j k)
       where
-        go : Dec (j ≡ k) → Plain n s j
+        go : Dec (j ≡ k) → Sole n s j
         go (yes q) = rw q (p (rw q at e))
         go (no q) = t .plain j (omega (arith, q)) b e
 
@@ -71,7 +71,7 @@ module _ (n m : ℕ) (s entry : List ℕ) where
           plain = plain-too (λ e. absurd (ne e));
         }
 
-    pub tested-more : (heads′ nexts′ : List ℕ) → Linked (openPlace m entry s) n k heads′ nexts′ → Plain n s k → Tested n m s entry heads′ nexts′ k
+    pub tested-more : (heads′ nexts′ : List ℕ) → Linked (openPlace m entry s) n k heads′ nexts′ → Sole n s k → Tested n m s entry heads′ nexts′ k
     tested-more heads′ nexts′ l p = record { end = omega (arith, t .end); linked = l; plain = plain-too (λ e. p) }
 
     pub tested-large : 1024 ≤ cellOf (rowAt 24 k s) → orderlyRows (rowsIn 24 n s) ≡ false
@@ -106,5 +106,5 @@ module _ (n m : ℕ) (s entry : List ℕ) where
         pub tested-twice : b ≡ true → orderlyRows (rowsIn 24 n s) ≡ false
         tested-twice q = displain n s k (omega (arith, t .end)) (plain-twice n s k (omega (arith, t .end)) (twice ∙ q))
 
-        pub open-alone : cell < 1024 → b ≡ false → Plain n s k
+        pub open-alone : cell < 1024 → b ≡ false → Sole n s k
         open-alone c q = record { small = rw (← row .cell-is) c; alone = twice ∙ q }

@@ -15,7 +15,7 @@ use Rattle.spec.specs.Look.{commitOf}
 use Rattle.spec.specs.Share.{any, wrote}
 use Rattle.spec.specs.declared.Number.the-variants.{Some, None}
 use Rattle.search.proofs.Folds.{if-same, any-step, any-end, any-at, commit-first, commit-none}
-use Rattle.spec.specs.Orderly.{under, commits, orderlyCommits, orderlyRows, orderly}
+use Rattle.spec.specs.Orderly.{under, isCommitOf, orderlyCommits, orderlyRows, orderly}
 
 pub differ : {b : Bool} → b ≡ true → b ≡ false → ⊥
 differ e f =
@@ -97,7 +97,7 @@ module _ (m : ℕ) (c : List ℕ) where
   Low i = under (commitNumber (rowAt 8 i c)) (rowsFrom 8 m (i + 1) c)
 
   abbrev Again : ℕ → Bool
-  Again i = any (commits (commitTag (rowAt 8 i c))) (rowsFrom 8 m (i + 1) c)
+  Again i = any (isCommitOf (commitTag (rowAt 8 i c))) (rowsFrom 8 m (i + 1) c)
 
   abbrev Rest : ℕ → Bool
   Rest i = orderlyCommits (rowsFrom 8 m i c)
@@ -166,13 +166,13 @@ module _ (m : ℕ) (c : List ℕ) where
             rw z (rise-by d j (omega arith))
 
     -- no later row has the tag
-    pub alone : (j : ℕ) → j < m → any (commits (commitTag (rowAt 8 j c))) (rowsFrom 8 m (j + 1) c) ≡ false
+    pub alone : (j : ℕ) → j < m → any (isCommitOf (commitTag (rowAt 8 j c))) (rowsFrom 8 m (j + 1) c) ≡ false
     alone j h = unless-left (Again j) (Rest (j + 1)) (if-right (Low j) (if Again j then false else Rest (j + 1))
         (sym (order-step j h) ∙ from-on e j (omega arith)))
 
     pub distinct : (j k : ℕ) → j < k → k < m → commitTag (rowAt 8 j c) ≡ commitTag (rowAt 8 k c) → ⊥
-    unfolding commits
-    distinct j k l h q = differ (from-at (commits (commitTag (rowAt 8 j c))) 8 m c (j + 1) k (omega arith) h (eq-eqb _ _ (sym q))) (alone j (omega arith))
+    unfolding isCommitOf
+    distinct j k l h q = differ (from-at (isCommitOf (commitTag (rowAt 8 j c))) 8 m c (j + 1) k (omega arith) h (eq-eqb _ _ (sym q))) (alone j (omega arith))
 
     pub number-of : (j tag : ℕ) → j < m → commitTag (rowAt 8 j c) ≡ tag → commitOf tag (rowsIn 8 m c) ≡ Some (commitNumber (rowAt 8 j c))
     number-of j tag h q = commit-first tag m c j h q (λ i l f. distinct i j l h (f ∙ sym q))
@@ -180,26 +180,26 @@ module _ (m : ℕ) (c : List ℕ) where
     -- the tag that a data row has, committed under that number, is that of a committed row
     pub committed : (C : Type 0) (tag v : ℕ) → commitOf tag (rowsIn 8 m c) ≡ Some v →
         ((k : ℕ) → k < m → commitTag (rowAt 8 k c) ≡ tag → commitNumber (rowAt 8 k c) ≡ v → C) → C
-    unfolding commits
-    committed C tag v q found = go (any (commits tag) (rowsIn 8 m c)) refl
+    unfolding isCommitOf
+    committed C tag v q found = go (any (isCommitOf tag) (rowsIn 8 m c)) refl
       where
         number : (k : ℕ) → k < m → commitTag (rowAt 8 k c) ≡ tag → commitNumber (rowAt 8 k c) ≡ v
         number k h f =
             let z : commitOf tag (rowsIn 8 m c) ≡ Some (commitNumber (rowAt 8 k c)) = number-of k tag h f in
             cc
 
-        nowhere : any (commits tag) (rowsIn 8 m c) ≡ false → (k : ℕ) → k < m → commitTag (rowAt 8 k c) ≡ tag → ⊥
-        nowhere f k h g = differ (any-at (commits tag) 8 m c k h (eq-eqb (commitTag (rowAt 8 k c)) tag g)) f
+        nowhere : any (isCommitOf tag) (rowsIn 8 m c) ≡ false → (k : ℕ) → k < m → commitTag (rowAt 8 k c) ≡ tag → ⊥
+        nowhere f k h g = differ (any-at (isCommitOf tag) 8 m c k h (eq-eqb (commitTag (rowAt 8 k c)) tag g)) f
 
-        none : any (commits tag) (rowsIn 8 m c) ≡ false → ⊥
+        none : any (isCommitOf tag) (rowsIn 8 m c) ≡ false → ⊥
         none f =
             let y : commitOf tag (rowsIn 8 m c) ≡ None = commit-none tag m c (nowhere f) in
             let z : _≡_ {A = ℕ} 0 1 = cc in
             omega arith
 
-        go : (b : Bool) → any (commits tag) (rowsIn 8 m c) ≡ b → C
+        go : (b : Bool) → any (isCommitOf tag) (rowsIn 8 m c) ≡ b → C
         go true f =
-            some-in (commits tag) 8 m c C f
+            some-in (isCommitOf tag) 8 m c C f
             (λ k h g. found k h (eqb-true (commitTag (rowAt 8 k c)) tag g) (number k h (eqb-true (commitTag (rowAt 8 k c)) tag g)))
         go false f = absurd (none f)
 
@@ -254,8 +254,8 @@ unfolding orderly
 disorder-rows ds cs e = rw e (if-same (orderlyCommits cs) false)
 
 -- where the committed rows are orderly a test of the data rows decides
-pub decided : (b : Bool) (ds cs : List Row) → orderlyCommits cs ≡ true → (b ≡ true → orderlyRows ds ≡ true) → (b ≡ false → orderlyRows ds ≡ false) → b
+pub order-decided : (b : Bool) (ds cs : List Row) → orderlyCommits cs ≡ true → (b ≡ true → orderlyRows ds ≡ true) → (b ≡ false → orderlyRows ds ≡ false) → b
     ≡ orderly ds cs
 unfolding orderly
-decided true ds cs o f g = rw (o, f refl)
-decided false ds cs o f g = rw (o, g refl)
+order-decided true ds cs o f g = rw (o, f refl)
+order-decided false ds cs o f g = rw (o, g refl)

@@ -11,16 +11,16 @@ use Rattle.spec.specs.Rows.{rowAt, rowsFrom, tagOf, cellOf, commitTag}
 use Rattle.spec.specs.Look.{isOwn}
 use Rattle.spec.specs.Share.{any, wrote}
 use Rattle.search.proofs.Folds.{any-step}
-use Rattle.spec.specs.Orderly.{commits}
+use Rattle.spec.specs.Orderly.{isCommitOf}
 
 module _ (tag n k : ℕ) (c : List ℕ) (h : k < n) where
-  pub tag-miss : (commitTag (rowAt 8 k c) ≡ tag → ⊥) → any (commits tag) (rowsFrom 8 n k c) ≡ any (commits tag) (rowsFrom 8 n (k + 1) c)
-  unfolding commits
-  tag-miss ne = any-step (commits tag) 8 n k c h ∙ rw (ne-eqb (commitTag (rowAt 8 k c)) tag ne)
+  pub tag-miss : (commitTag (rowAt 8 k c) ≡ tag → ⊥) → any (isCommitOf tag) (rowsFrom 8 n k c) ≡ any (isCommitOf tag) (rowsFrom 8 n (k + 1) c)
+  unfolding isCommitOf
+  tag-miss ne = any-step (isCommitOf tag) 8 n k c h ∙ rw (ne-eqb (commitTag (rowAt 8 k c)) tag ne)
 
-  pub tag-here : commitTag (rowAt 8 k c) ≡ tag → any (commits tag) (rowsFrom 8 n k c) ≡ true
-  unfolding commits
-  tag-here e = any-step (commits tag) 8 n k c h ∙ rw (eq-eqb (commitTag (rowAt 8 k c)) tag e)
+  pub tag-here : commitTag (rowAt 8 k c) ≡ tag → any (isCommitOf tag) (rowsFrom 8 n k c) ≡ true
+  unfolding isCommitOf
+  tag-here e = any-step (isCommitOf tag) 8 n k c h ∙ rw (eq-eqb (commitTag (rowAt 8 k c)) tag e)
 
 module _ (tag cell n k : ℕ) (s : List ℕ) (h : k < n) where
   pub own-miss : (tagOf (rowAt 24 k s) ≡ tag → cellOf (rowAt 24 k s) ≡ cell → ⊥) → wrote (rowsFrom 24 n k s) tag cell ≡ wrote

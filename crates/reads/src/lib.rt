@@ -2,7 +2,7 @@
 ghost use mathlib.Core.Path.{_≡_};
 ghost use Rattle.spec.specs.Answers.{readOf};
 ghost use Rattle.spec.specs.Calls.{read};
-ghost use Rattle.spec.specs.Bytes.{leaves, after};
+ghost use Rattle.spec.specs.Bytes.{afterOf, onBytes};
 ghost use Rattle.spec.specs.Values.{valueRead, valueFrom};
 use spec::CELLS;
 use spec::LIMIT;
@@ -10,7 +10,7 @@ use spec::ReadAnswer;
 use spec::ReadTurn;
 use spec::Reading;
 use spec::Refusal;
-use spec::Seen;
+use spec::Lookup;
 use spec::Store;
 
 fn no_read(store: Store, refusal: Refusal) -> ReadTurn
@@ -24,7 +24,7 @@ fn no_read(store: Store, refusal: Refusal) -> ReadTurn
 
 // Read answers in which data row the value stands: `value` hands its sixteen bytes back. It answers until the commit is made, at stage 12.
 pub fn read(store: Store, rows: &[u8], commits: &[u8], client: u32, cell: u32) -> ReadTurn
-    ensures { λ r. ⌜ leaves (r .store) (now (rows .entry)) (now (commits .entry)) (readOf (r .answer)) ≡ after (read client cell) store (now (rows .entry)) (now (commits .entry)) ⌝ }
+    ensures { λ r. ⌜ afterOf (r .store) (now (rows .entry)) (now (commits .entry)) (readOf (r .answer)) ≡ onBytes (read client cell) store (now (rows .entry)) (now (commits .entry)) ⌝ }
 {
     if !record::fit(store, rows.len(), commits.len()) {
         return no_read(store, Refusal::Unfit);
@@ -51,11 +51,11 @@ pub fn read(store: Store, rows: &[u8], commits: &[u8], client: u32, cell: u32) -
     let snapshot = snapshots[k];
     let seen = search::look_for(rows, used, commits, entries, number, cell, snapshot);
     match seen {
-        Seen::Version { at, number: _ } => ReadTurn {
+        Lookup::Version { at, number: _ } => ReadTurn {
             store,
             answer: ReadAnswer::Answered(Reading::Value(at)),
         },
-        Seen::Nothing => ReadTurn {
+        Lookup::Nothing => ReadTurn {
             store,
             answer: ReadAnswer::Answered(Reading::Unwritten),
         },
@@ -74,7 +74,7 @@ pub fn value<'a>(rows: &'a [u8], at: usize) -> &'a [u8]
 
 // The sixteen bytes that a read finds, as they stand in the data buffer; none where it is refused or the cell is unwritten.
 pub fn lookup<'a>(store: Store, rows: &'a [u8], commits: &[u8], client: u32, cell: u32) -> &'a [u8]
-    ensures { λ r. ⌜ now r ≡ valueFrom (now (rows .entry)) (after (read client cell) store (now (rows .entry)) (now (commits .entry)) .answer) ⌝ }
+    ensures { λ r. ⌜ now r ≡ valueFrom (now (rows .entry)) (onBytes (read client cell) store (now (rows .entry)) (now (commits .entry)) .answer) ⌝ }
 {
     let turn = read(store, rows, commits, client, cell);
     let answer = turn.answer;

@@ -11,7 +11,7 @@ ghost use Rattle.spec.specs.Numbers.{smallest};
 ghost use Rattle.spec.specs.Image.{cleared, closed, empty, Image};
 ghost use Rattle.spec.specs.Calls.{readers, low};
 ghost use Rattle.spec.specs.Steps.{queued, struck};
-ghost use Rattle.spec.specs.Bytes.{countersIn, clientsIn, recordOf, seen, storeOf, known, fits, limitOf, accepts};
+ghost use Rattle.spec.specs.Bytes.{countersIn, clientsIn, recordOf, decode, storeOf, known, fits, limitOf, accepts};
 use spec::CLIENTS;
 use spec::FigureAnswer;
 use spec::FigureTurn;
@@ -81,8 +81,8 @@ pub fn fresh(rows: u32, limit: u32, issued: u32) -> Store
         snapshot: [0; CLIENTS],
         request: [0; CLIENTS],
         commit: [0; CLIENTS],
-        blockers: [0; CLIENTS],
-        ahead: [0; CLIENTS],
+        requestWaits: [0; CLIENTS],
+        commitWaits: [0; CLIENTS],
     }
 }
 
@@ -114,20 +114,20 @@ pub fn close(store: Store, client: u32) -> Store
     requests[k] = 0;
     let mut commits = store.commit;
     commits[k] = 0;
-    let blockers = store.blockers;
-    let mut blockers_left = clear_all(blockers, client);
-    blockers_left[k] = 0;
-    let ahead = store.ahead;
-    let mut ahead_left = clear_all(ahead, client);
-    ahead_left[k] = 0;
+    let request_waits = store.requestWaits;
+    let mut request_waits_left = clear_all(request_waits, client);
+    request_waits_left[k] = 0;
+    let commit_waits = store.commitWaits;
+    let mut commit_waits_left = clear_all(commit_waits, client);
+    commit_waits_left[k] = 0;
     let mut next = store;
     next.stage = stages;
     next.number = numbers;
     next.snapshot = snapshots;
     next.request = requests;
     next.commit = commits;
-    next.blockers = blockers_left;
-    next.ahead = ahead_left;
+    next.requestWaits = request_waits_left;
+    next.commitWaits = commit_waits_left;
     next
 }
 
@@ -251,7 +251,7 @@ fn smallest_open(numbers: &[u32; CLIENTS], snapshots: &[u32; CLIENTS]) -> Number
 
 // The same of a record, or the last commit number if none is open.
 pub fn lowest(store: Store) -> u32
-    ensures { λ r. ⌜ ((d c : List ℕ) → r ≡ low (seen store d c)) ⌝ }
+    ensures { λ r. ⌜ ((d c : List ℕ) → r ≡ low (decode store d c)) ⌝ }
 {
     let numbers = store.number;
     let snapshots = store.snapshot;

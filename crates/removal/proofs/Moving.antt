@@ -16,7 +16,7 @@ use borrow.Author.Tests.{eq-eqb, ne-eqb, eqb-false}
 use lib.ListN.{length, set, take, drop, getD, replicate, length-append, length-drop, take-append-drop}
 use lib.Seq.{sets-eq, drop-cons, take-at, drop-at, take-add, length-take-le, drop-drop, getD-set-same, getD-set-other}
 use Rattle.spec.specs.Choice.{if_then_else_}
-use Rattle.spec.specs.Rows.{Row, part, spliced, rowAt, rowsIn, rowsFrom, laid, filter, tagOf, hasTag}
+use Rattle.spec.specs.Rows.{Row, part, spliced, rowAt, rowsIn, rowsFrom, layout, filter, tagOf, hasTag}
 use Rattle.spec.proofs.Bytes.{spliced-next, take-spliced, drop-spliced, length-spliced, drop-later}
 use Rattle.spec.proofs.Rows.{rows-start, rows-step, rows-end, row-inside, row-length, length-rows}
 use Rattle.spec.proofs.Laid.{laid-fewer, laid-same}
@@ -191,9 +191,9 @@ closing flags w n s r h e =
     (few, mul-le-mul-left w few, omega arith)
 
 -- the freed part, cleared
-pub closed : (w n r : ℕ) (kept : List Row) (s buf : List ℕ) → r ≡ length kept → r ≤ n → w * n ≤ length s → buf ≡ flatten kept ++ drop (w * r) s → length buf ≡ length s
-    → putMid (w * r) (w * n - w * r) buf (replicate (length (part (w * r) (w * n - w * r) buf)) 0) ≡ laid w n kept s
-closed w n r kept s buf e g l f q =
+pub freed-cleared : (w n r : ℕ) (kept : List Row) (s buf : List ℕ) → r ≡ length kept → r ≤ n → w * n ≤ length s → buf ≡ flatten kept ++ drop (w * r) s → length buf ≡ length s
+    → putMid (w * r) (w * n - w * r) buf (replicate (length (part (w * r) (w * n - w * r) buf)) 0) ≡ layout w n kept s
+freed-cleared w n r kept s buf e g l f q =
     let low : w * r ≤ w * n = mul-le-mul-left w g in
     let front : length (flatten kept) ≡ w * r = omega (arith, length-append (flatten kept) (drop (w * r) s), ap length f, length-drop (w * r) s) in
     let size : length (part (w * r) (w * n - w * r) buf) ≡ w * n - w * r =

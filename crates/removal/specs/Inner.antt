@@ -7,7 +7,7 @@ use mathlib.Core.List.{List, [], _∷_}
 use lib.ListN.{length, getD}
 use lib.Dec.{eqb}
 use Rattle.spec.specs.Choice.{if_then_else_}
-use Rattle.spec.specs.Rows.{Row, rowAt, laid, hasTag}
+use Rattle.spec.specs.Rows.{Row, rowAt, layout, hasTag}
 
 -- ---- Rows that are kept by flags, for the inner functions' promises.
 
@@ -28,4 +28,4 @@ pub record Flags (p : Row → Bool) (w n : ℕ) (s flags : List ℕ) : Type 0 wh
 -- a buffer s of n rows has become s′, with the n′ rows rs in use
 pub record Left (w n : ℕ) (rs : List Row) (s s′ : List ℕ) (n′ : ℕ) : Type 0 where
   pub rows : n′ ≡ length rs
-  pub bytes : s′ ≡ laid w n rs s
+  pub bytes : s′ ≡ layout w n rs s

@@ -3,7 +3,7 @@ ghost use mathlib.Core.Path.{_≡_};
 ghost use mathlib.Core.List.{[], _∷_, _++_};
 ghost use Prim.Native.Nat.{ℕ, _+_, _*_, _≤_, _<_};
 ghost use lib.ListN.{length, getD, set, replicate};
-ghost use Rattle.spec.specs.Rows.{part, spliced, number, bytesOf, dataRow, tagOf, cellOf, valueOf, withValue, commitRow, commitNumber, commitTag, rowAt, rowsIn, laid};
+ghost use Rattle.spec.specs.Rows.{part, spliced, number, bytesOf, dataRow, tagOf, cellOf, valueOf, withValue, commitRow, commitNumber, commitTag, rowAt, rowsIn, layout};
 
 fn wide(x: u8) -> u32
     ensures { λ r. ⌜ (r ≡ x) × (r < 256) ⌝ }
@@ -120,7 +120,7 @@ pub fn append_row(rows: &mut [u8], used: usize, tag: u32, cell: u32, value: &[u8
     requires { ⌜ 24 * used + 24 ≤ length (now rows) ⌝ }
     requires { ⌜ cell < 65536 ⌝ }
     requires { ⌜ length (now value) ≡ 16 ⌝ }
-    ensures { λ _. ⌜ now (rows .exit) ≡ laid 24 used (rowsIn 24 used (now (rows .entry)) ++ (dataRow tag cell (now (value .entry)) ∷ [])) (now (rows .entry)) ⌝ }
+    ensures { λ _. ⌜ now (rows .exit) ≡ layout 24 used (rowsIn 24 used (now (rows .entry)) ++ (dataRow tag cell (now (value .entry)) ∷ [])) (now (rows .entry)) ⌝ }
 {
     let end = 24 * used;
     write_row(&mut rows[end..], tag, cell, value);
@@ -138,7 +138,7 @@ fn write_commit(row: &mut [u8], number: u32, tag: u32)
 // Writes a committed row directly behind the used ones, in the same way.
 pub fn append_commit(commits: &mut [u8], used: usize, number: u32, tag: u32)
     requires { ⌜ 8 * used + 8 ≤ length (now commits) ⌝ }
-    ensures { λ _. ⌜ now (commits .exit) ≡ laid 8 used (rowsIn 8 used (now (commits .entry)) ++ (commitRow number tag ∷ [])) (now (commits .entry)) ⌝ }
+    ensures { λ _. ⌜ now (commits .exit) ≡ layout 8 used (rowsIn 8 used (now (commits .entry)) ++ (commitRow number tag ∷ [])) (now (commits .entry)) ⌝ }
 {
     let end = 8 * used;
     write_commit(&mut commits[end..], number, tag);
@@ -148,7 +148,7 @@ pub fn append_commit(commits: &mut [u8], used: usize, number: u32, tag: u32)
 pub fn replace_value(rows: &mut [u8], i: usize, value: &[u8])
     requires { ⌜ 24 * i + 24 ≤ length (now rows) ⌝ }
     requires { ⌜ length (now value) ≡ 16 ⌝ }
-    ensures { λ _. ⌜ ((n : ℕ) → i < n → 24 * n ≤ length (now (rows .entry)) → now (rows .exit) ≡ laid 24 n (set (rowsIn 24 n (now (rows .entry))) i (withValue (now (value .entry)) (getD (rowsIn 24 n (now (rows .entry))) i []))) (now (rows .entry))) ⌝ }
+    ensures { λ _. ⌜ ((n : ℕ) → i < n → 24 * n ≤ length (now (rows .entry)) → now (rows .exit) ≡ layout 24 n (set (rowsIn 24 n (now (rows .entry))) i (withValue (now (value .entry)) (getD (rowsIn 24 n (now (rows .entry))) i []))) (now (rows .entry))) ⌝ }
 {
     copy_at(rows, 24 * i + 8, value);
 }

@@ -14,16 +14,16 @@ use Rattle.spec.specs.declared.Number.{Number}
 use Rattle.spec.specs.declared.Number.the-variants.{Some, None}
 use Rattle.spec.specs.declared.Found.{Found}
 use Rattle.spec.specs.declared.Found.the-variants.{At, Missing}
-use Rattle.spec.specs.declared.Seen.{Seen}
-use Rattle.spec.specs.declared.Seen.the-variants.{Version, Nothing}
-use Rattle.spec.specs.Look.{isOwn, find, versionOf, newer, seenAt, newest, ownOr, lookFor}
+use Rattle.spec.specs.declared.Lookup.{Lookup}
+use Rattle.spec.specs.declared.Lookup.the-variants.{Version, Nothing}
+use Rattle.spec.specs.Look.{isOwn, find, versionOf, newer, versionAt, newest, ownOr, lookFor}
 
 -- what was seen is below row n
-abbrev Below : ℕ → Seen → Type 0
+abbrev Below : ℕ → Lookup → Type 0
 Below n Nothing = Unit {0}
 Below n (Version i m) = i < n
 
-newer-below : (n : ℕ) (a b : Seen) → Below n a → Below n b → Below n (newer a b)
+newer-below : (n : ℕ) (a b : Lookup) → Below n a → Below n b → Below n (newer a b)
 unfolding newer
 newer-below n Nothing b h g = g
 newer-below n (Version i m) Nothing h g = h
@@ -33,8 +33,8 @@ newer-below n (Version i m) (Version j k) h g = go (ltb m k)
     go true = g
     go false = h
 
-seen-below : (n i : ℕ) (v : Number) → i < n → Below n (seenAt i v)
-unfolding seenAt
+seen-below : (n i : ℕ) (v : Number) → i < n → Below n (versionAt i v)
+unfolding versionAt
 seen-below n i None h = tt
 seen-below n i (Some m) h = h
 
@@ -42,7 +42,7 @@ newest-below : (f : Row → Number) (n i : ℕ) (rs : List Row) → i + length r
 unfolding newest
 newest-below f n i [] h = tt
 newest-below f n i (r ∷ rs) h =
-    newer-below n (seenAt i (f r)) (newest f (i + 1) rs) (seen-below n i (f r) (omega arith)) (newest-below f n (i + 1) rs (omega arith))
+    newer-below n (versionAt i (f r)) (newest f (i + 1) rs) (seen-below n i (f r) (omega arith)) (newest-below f n (i + 1) rs (omega arith))
 
 pub find-below : (p : Row → Bool) (i j : ℕ) (rs : List Row) → find p i rs ≡ At j → j < i + length rs
 unfolding find
@@ -57,10 +57,10 @@ pub look-below : (tag cell s n : ℕ) (d : List ℕ) (cs : List Row) (j m : ℕ)
 unfolding lookFor ownOr
 look-below tag cell s n d cs j m e = go (find (isOwn tag cell) 0 (rowsIn 24 n d)) refl e
   where
-    seen : Seen
+    seen : Lookup
     seen = newest (versionOf cell s cs) 0 (rowsIn 24 n d)
 
-    at : (v : Seen) → Below n v → v ≡ Version j m → j < n
+    at : (v : Lookup) → Below n v → v ≡ Version j m → j < n
     at Nothing b q = let z : _≡_ {A = ℕ} 0 1 = cc in omega arith
     at (Version i k) b q = let p : i ≡ j = cc in omega arith
 

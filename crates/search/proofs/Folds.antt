@@ -15,10 +15,10 @@ use Rattle.spec.proofs.Rows.{rows-start, rows-step, rows-end, rows-last}
 use Rattle.spec.specs.declared.Number.{Number}
 use Rattle.spec.specs.declared.Number.the-variants.{Some, None}
 use Rattle.spec.specs.declared.Found.the-variants.{At, Missing}
-use Rattle.spec.specs.declared.Seen.{Seen}
-use Rattle.spec.specs.declared.Seen.the-variants.{Version, Nothing}
+use Rattle.spec.specs.declared.Lookup.{Lookup}
+use Rattle.spec.specs.declared.Lookup.the-variants.{Version, Nothing}
 use Rattle.spec.specs.Numbers.{lesser}
-use Rattle.spec.specs.Look.{commitOf, isOwn, find, newer, seenAt, newest}
+use Rattle.spec.specs.Look.{commitOf, isOwn, find, newer, versionAt, newest}
 use Rattle.spec.specs.Share.{any, count, wrote, cellsOf}
 
 -- ---- choices
@@ -137,12 +137,12 @@ module _ (tag n : ℕ) (s : List ℕ) where
 -- ---- the newest row
 
 module _ (f : Row → Number) (w n i : ℕ) (s : List ℕ) where
-  pub newest-step : i < n → newest f i (rowsFrom w n i s) ≡ newer (seenAt i (f (rowAt w i s))) (newest f (i + 1) (rowsFrom w n (i + 1) s))
+  pub newest-step : i < n → newest f i (rowsFrom w n i s) ≡ newer (versionAt i (f (rowAt w i s))) (newest f (i + 1) (rowsFrom w n (i + 1) s))
   unfolding newest
   newest-step h = rw (rows-step w n i s h)
 
   pub newest-miss : i < n → f (rowAt w i s) ≡ None → newest f i (rowsFrom w n i s) ≡ newest f (i + 1) (rowsFrom w n (i + 1) s)
-  unfolding newest newer seenAt
+  unfolding newest newer versionAt
   newest-miss h e = rw (rows-step w n i s h, e)
 
   pub newest-end : n ≤ i → newest f i (rowsFrom w n i s) ≡ Nothing
@@ -187,7 +187,7 @@ cells-fewer tag (r ∷ rs) = go (hasTag tag r) (wrote rs tag (cellOf r)) (cells-
 
 -- ---- the newer of two, and the lesser of two, may be taken in any grouping
 
-pub newer-assoc : (a b c : Seen) → newer (newer a b) c ≡ newer a (newer b c)
+pub newer-assoc : (a b c : Lookup) → newer (newer a b) c ≡ newer a (newer b c)
 unfolding newer
 newer-assoc Nothing b c = refl
 newer-assoc (Version i m) Nothing c = refl
@@ -204,7 +204,7 @@ newer-assoc (Version i m) (Version j n) (Version k o) = go (ltb m n) (ltb n o) r
     go false true e f = refl
     go false false e f = rw (e, le-ltb m o (omega (arith, ltb-false m n e, ltb-false n o f)))
 
-pub newer-none : (a : Seen) → newer a Nothing ≡ a
+pub newer-none : (a : Lookup) → newer a Nothing ≡ a
 unfolding newer
 newer-none Nothing = refl
 newer-none (Version i n) = refl

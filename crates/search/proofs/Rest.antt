@@ -10,12 +10,12 @@ use borrow.Author.Tests.{eq-eqb, ne-eqb}
 use Rattle.spec.specs.Rows.{Row, tagOf, cellOf, hasTag, rowAt, rowsIn, rowsFrom}
 use Rattle.spec.proofs.Rows.{rows-start}
 use Rattle.spec.specs.declared.Number.the-variants.{None}
-use Rattle.spec.specs.declared.Seen.{Seen}
-use Rattle.spec.specs.declared.Seen.the-variants.{Version, Nothing}
+use Rattle.spec.specs.declared.Lookup.{Lookup}
+use Rattle.spec.specs.declared.Lookup.the-variants.{Version, Nothing}
 use Rattle.search.specs.declared.Own.{Own}
 use Rattle.search.specs.declared.Own.the-variants.{Row as OwnRow, Rows as OwnRows}
 use Rattle.spec.specs.Numbers.{upTo}
-use Rattle.spec.specs.Look.{commitOf, isOwn, find, versionOf, newer, seenAt, newest, ownOr, lookFor}
+use Rattle.spec.specs.Look.{commitOf, isOwn, find, versionOf, newer, versionAt, newest, ownOr, lookFor}
 use Rattle.spec.specs.Share.{count}
 use Rattle.search.specs.Inner.{rowOrCount}
 use Rattle.search.proofs.Folds.{own-yes, own-other-tag, own-other-cell, tag-yes, tag-no, find-hit, find-miss, find-end, count-hit, count-miss, count-end, newest-step, newest-miss, newest-end, newer-assoc, newer-none}
@@ -31,14 +31,14 @@ version-no cell s cs r n = rw (ne-eqb _ _ n)
 -- ---- a read
 
 module _ (tag cell s n : ℕ) (d : List ℕ) (cs : List Row) where
-  pub readRest : Seen → ℕ → Seen
+  pub readRest : Lookup → ℕ → Lookup
   readRest best i = ownOr (find (isOwn tag cell) i (rowsFrom 24 n i d)) (newer best (newest (versionOf cell s cs) i (rowsFrom 24 n i d)))
 
   pub read-start : lookFor tag cell s (rowsIn 24 n d) cs ≡ readRest Nothing 0
   unfolding lookFor newer readRest
   read-start = rw (rows-start 24 n d)
 
-  module _ (best : Seen) (i : ℕ) where
+  module _ (best : Lookup) (i : ℕ) where
     pub read-skip : i < n → (cellOf (rowAt 24 i d) ≡ cell → ⊥) → readRest best i ≡ readRest best (i + 1)
     unfolding readRest
     read-skip h e =
@@ -48,8 +48,8 @@ module _ (tag cell s n : ℕ) (d : List ℕ) (cs : List Row) where
     unfolding readRest ownOr
     read-own h e f = rw (find-hit (isOwn tag cell) 24 n i d h (own-yes tag cell (rowAt 24 i d) f e))
 
-    pub read-other : (b : Seen) → i < n → cellOf (rowAt 24 i d) ≡ cell → (tagOf (rowAt 24 i d) ≡ tag → ⊥)
-        → b ≡ newer best (seenAt i (upTo s (commitOf (tagOf (rowAt 24 i d)) cs))) → readRest best i ≡ readRest b (i + 1)
+    pub read-other : (b : Lookup) → i < n → cellOf (rowAt 24 i d) ≡ cell → (tagOf (rowAt 24 i d) ≡ tag → ⊥)
+        → b ≡ newer best (versionAt i (upTo s (commitOf (tagOf (rowAt 24 i d)) cs))) → readRest best i ≡ readRest b (i + 1)
     unfolding readRest
     read-other b h e f g =
         rw (find-miss (isOwn tag cell) 24 n i d h (own-other-tag tag cell (rowAt 24 i d) f), newest-step (versionOf cell s cs) 24 n i d h, version-yes cell s cs (rowAt 24 i d) e, ← newer-assoc best, ← g)

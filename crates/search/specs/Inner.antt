@@ -22,7 +22,7 @@ pub record Next (Hit : ℕ → Type 0) (from n r : ℕ) : Type 0 where
   pub hit : r < n → Hit r
 
 -- marks say of each cell below 1,024 whether the transaction wrote it
-pub record Marked (marks : List ℕ) (ds : List Row) (tag : ℕ) : Type 0 where
+pub record WrittenMarks (marks : List ℕ) (ds : List Row) (tag : ℕ) : Type 0 where
   pub size : length marks ≡ 1024
   pub each : (x : ℕ) → x < 1024 → getD marks x 0 ≡ (if wrote ds tag x then 1 else 0)
 

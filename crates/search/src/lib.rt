@@ -8,13 +8,13 @@ ghost use Rattle.spec.specs.Set.{clients, member, insert, collect};
 ghost use Rattle.spec.specs.Choice.{if_then_else_};
 ghost use Rattle.spec.specs.Rows.{rowAt, rowsIn, rowsFrom, tagOf, cellOf, commitNumber, hasTag};
 ghost use Rattle.spec.specs.Numbers.{lesser, above, upTo};
-ghost use Rattle.spec.specs.Look.{commitOf, isOwn, find, newer, seenAt, lookFor};
+ghost use Rattle.spec.specs.Look.{commitOf, isOwn, find, newer, versionAt, lookFor};
 ghost use Rattle.spec.specs.Share.{any, count, wrote, cellsOf, shares, conflict};
-ghost use Rattle.search.specs.Inner.{rowOrCount, Next, Marked};
+ghost use Rattle.search.specs.Inner.{rowOrCount, Next, WrittenMarks};
 use spec::CLIENTS;
 use spec::Found;
 use spec::Number;
-use spec::Seen;
+use spec::Lookup;
 use spec::Set;
 
 // The row of a transaction for a cell, or how many rows it has where there is none.
@@ -81,24 +81,24 @@ fn up_to(snapshot: u32, number: Number) -> Number
     }
 }
 
-fn newer_version(best: Seen, i: usize, n: u32) -> Seen
-    ensures { λ r. ⌜ r ≡ newer best (Seen.Version i n) ⌝ }
+fn newer_version(best: Lookup, i: usize, n: u32) -> Lookup
+    ensures { λ r. ⌜ r ≡ newer best (Lookup.Version i n) ⌝ }
 {
     match best {
-        Seen::Version { at: _, number } => {
+        Lookup::Version { at: _, number } => {
             if number < n {
-                Seen::Version { at: i, number: n }
+                Lookup::Version { at: i, number: n }
             } else {
                 best
             }
         }
-        Seen::Nothing => Seen::Version { at: i, number: n },
+        Lookup::Nothing => Lookup::Version { at: i, number: n },
     }
 }
 
 // The better of what was seen before and row i under a number.
-fn newer_of(best: Seen, i: usize, number: Number) -> Seen
-    ensures { λ r. ⌜ r ≡ newer best (seenAt i number) ⌝ }
+fn newer_of(best: Lookup, i: usize, number: Number) -> Lookup
+    ensures { λ r. ⌜ r ≡ newer best (versionAt i number) ⌝ }
 {
     match number {
         Number::Some(n) => newer_version(best, i, n),
@@ -115,17 +115,17 @@ pub fn look_for(
     tag: u32,
     cell: u32,
     snapshot: u32,
-) -> Seen
+) -> Lookup
     requires { ⌜ 24 * used ≤ length (now rows) ⌝ }
     requires { ⌜ 8 * entries ≤ length (now commits) ⌝ }
     ensures { λ r. ⌜ r ≡ lookFor tag cell snapshot (rowsIn 24 used (now (rows .entry))) (rowsIn 8 entries (now (commits .entry))) ⌝ }
 {
-    let mut best = Seen::Nothing;
+    let mut best = Lookup::Nothing;
     let mut i = next_cell(rows, 0, used, cell);
     while i < used {
         let writer = rows::tag_at(rows, i);
         if writer == tag {
-            return Seen::Version { at: i, number: 0 };
+            return Lookup::Version { at: i, number: 0 };
         }
         let number = up_to(snapshot, commit_of(commits, entries, writer));
         best = newer_of(best, i, number);
@@ -225,7 +225,7 @@ fn mark(marks: &mut [u8; 1024], cell: u32)
 // For each cell below 1,024 whether the transaction wrote it.
 fn cells_of(rows: &[u8], used: usize, tag: u32) -> [u8; 1024]
     requires { ⌜ 24 * used ≤ length (now rows) ⌝ }
-    ensures { λ r. ⌜ Marked r (rowsIn 24 used (now (rows .entry))) tag ⌝ }
+    ensures { λ r. ⌜ WrittenMarks r (rowsIn 24 used (now (rows .entry))) tag ⌝ }
 {
     let mut marks = [0u8; 1024];
     let mut i = next_tag(rows, 0, used, tag);
@@ -239,7 +239,7 @@ fn cells_of(rows: &[u8], used: usize, tag: u32) -> [u8; 1024]
 // Whether the transaction wrote the cell, by its marks; cells above 1,023 are looked for in the rows.
 fn has_written(marks: &[u8; 1024], rows: &[u8], used: usize, tag: u32, cell: u32) -> bool
     requires { ⌜ 24 * used ≤ length (now rows) ⌝ }
-    requires { ⌜ Marked (now marks) (rowsIn 24 used (now rows)) tag ⌝ }
+    requires { ⌜ WrittenMarks (now marks) (rowsIn 24 used (now rows)) tag ⌝ }
     ensures { λ r. ⌜ r ≡ wrote (rowsIn 24 used (now (rows .entry))) tag cell ⌝ }
 {
     if cell < 1024 {

@@ -19,7 +19,7 @@ use Rattle.spec.specs.declared.FigureAnswer.the-variants as figure
 use Rattle.spec.specs.Answers.{Answer, Answered, Refused, figureOf, badSetUp}
 use Rattle.spec.specs.Image.{Image, empty}
 use Rattle.spec.specs.Calls.{Outcome}
-use Rattle.spec.specs.Bytes.{storeOf, After, leaves, after, limitOf, accepts, setUp}
+use Rattle.spec.specs.Bytes.{storeOf, After, afterOf, onBytes, limitOf, accepts, setUp}
 use Rattle.spec.specs.Text.{formOf, freeText, answerText, refusedText, lineText}
 use Rattle.spec.specs.Session.{World, worldOf, behind, called, said, setUpSaid, setUpResponse, response, answerTo}
 use Rattle.text.specs.Inner.{Put}
@@ -37,12 +37,12 @@ module _ (store : Store) (b b₂ : List ℕ) (out out′ : List ℕ) (at used : 
   -- the answer to a call: x and y are what it leaves of the fronts, d and c bytes long
   pub spoken : {A : Type 0} (g : Image → Outcome A) (form : Form) (t : A → List ℕ) (d c : ℕ) (s : Store) (x y d′ c′ : List ℕ) (a : Answer A)
       → Front (24 * store .rows) (length b) d → Front (8 * store .rows) (length b₂) c
-      → leaves s x y a ≡ after g store (take d b) (take c b₂) → d′ ≡ x ++ drop d b → c′ ≡ y ++ drop c b₂
+      → afterOf s x y a ≡ onBytes g store (take d b) (take c b₂) → d′ ≡ x ++ drop d b → c′ ≡ y ++ drop c b₂
       → Put out at (lineText form (answerText t a)) out′ used → used ≤ at + 90
       → Spoken (said form t (worldOf store b b₂) (called g (worldOf store b b₂))) (worldOf s d′ c′) out at out′ used
   spoken {A} g form t d c s x y d′ c′ a fd fc e p q u l =
       let w : World = worldOf store b b₂ in
-      let z : leaves s x y a ≡ called g w = e ∙ rw (front-take (24 * store .rows) d b fd, front-take (8 * store .rows) c b₂ fc) in
+      let z : afterOf s x y a ≡ called g w = e ∙ rw (front-take (24 * store .rows) d b fd, front-take (8 * store .rows) c b₂ fc) in
       record {
         world =
             rw (p, q, front-drop (24 * store .rows) d b fd, front-drop (8 * store .rows) c b₂ fc)
@@ -58,12 +58,12 @@ module _ (store : Store) (b b₂ : List ℕ) (out out′ : List ℕ) (at used : 
   too-many form r first limit h u l = rw (lt-ltb 1024 r h) (record { world = refl; text = u; room = l })
 
   -- a refused set-up leaves the buffers
-  left : (d c x y : List ℕ) (first limit n : ℕ) (s : Store) → leaves {A = ℕ} s x y (Refused n) ≡ setUp d c first limit → (x ≡ d) × (y ≡ c)
+  left : (d c x y : List ℕ) (first limit n : ℕ) (s : Store) → afterOf {A = ℕ} s x y (Refused n) ≡ setUp d c first limit → (x ≡ d) × (y ≡ c)
   unfolding setUp
   left d c x y first limit n s e = go (accepts (length d) (length c) first limit) e
     where
       go : (t : Bool)
-          → leaves {A = ℕ} s x y (Refused n) ≡ (if t then leaves (storeOf (empty (length d / 24) (limitOf limit) (first - 1))) (replicate (length d) 0) (replicate (length c) 0) (Answered (length d / 24)) else leaves (storeOf (empty 0 0 0)) d c (Refused badSetUp))
+          → afterOf {A = ℕ} s x y (Refused n) ≡ (if t then afterOf (storeOf (empty (length d / 24) (limitOf limit) (first - 1))) (replicate (length d) 0) (replicate (length c) 0) (Answered (length d / 24)) else afterOf (storeOf (empty 0 0 0)) d c (Refused badSetUp))
           → (x ≡ d) × (y ≡ c)
       go true q =
           let f : Refused n ≡ Answered (length d / 24) = ap (λ (o : After ℕ). o .answer) q in
@@ -73,9 +73,9 @@ module _ (store : Store) (b b₂ : List ℕ) (out out′ : List ℕ) (at used : 
 
   set-up : (form : Form) (r first limit d c : ℕ) (s : Store) (x y d′ c′ : List ℕ) (a : FigureAnswer)
       → Front (24 * r) (length b) d → Front (8 * r) (length b₂) c
-      → leaves s x y (figureOf a) ≡ setUp (take d b) (take c b₂) first limit → d′ ≡ x ++ drop d b → c′ ≡ y ++ drop c b₂
+      → afterOf s x y (figureOf a) ≡ setUp (take d b) (take c b₂) first limit → d′ ≡ x ++ drop d b → c′ ≡ y ++ drop c b₂
       → Put out at (lineText form (answerText freeText (figureOf a))) out′ used → used ≤ at + 90
-      → (o : After ℕ) → leaves s x y (figureOf a) ≡ o
+      → (o : After ℕ) → afterOf s x y (figureOf a) ≡ o
       → Spoken (setUpSaid form r (worldOf store b b₂) o (o .answer)) (worldOf (keptOf store s a) d′ c′) out at out′ used
   set-up form r first limit d c s x y d′ c′ (figure.Answered n) fd fc e p q u l o z =
       subst (λ (o : After ℕ). Spoken (setUpSaid form r (worldOf store b b₂) o (o .answer)) (worldOf s d′ c′) out at out′ used) z
@@ -87,7 +87,7 @@ module _ (store : Store) (b b₂ : List ℕ) (out out′ : List ℕ) (at used : 
 
   pub set-up-spoken : (form : Form) (r first limit d c : ℕ) (s : Store) (x y d′ c′ : List ℕ) (a : FigureAnswer) → r ≤ 1024
       → Front (24 * r) (length b) d → Front (8 * r) (length b₂) c
-      → leaves s x y (figureOf a) ≡ setUp (take d b) (take c b₂) first limit → d′ ≡ x ++ drop d b → c′ ≡ y ++ drop c b₂
+      → afterOf s x y (figureOf a) ≡ setUp (take d b) (take c b₂) first limit → d′ ≡ x ++ drop d b → c′ ≡ y ++ drop c b₂
       → Put out at (lineText form (answerText freeText (figureOf a))) out′ used → used ≤ at + 90
       → Spoken (setUpResponse form r first limit (worldOf store b b₂)) (worldOf (keptOf store s a) d′ c′) out at out′ used
   unfolding setUpResponse

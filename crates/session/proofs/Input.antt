@@ -14,7 +14,7 @@ use lib.ListN.{length, take, length-append}
 use lib.Seq.{length-take-le, take-all}
 use Rattle.spec.specs.Text.{formOf}
 use Rattle.spec.specs.Session.{World, answerTo, answers, response, glue, lines, initial, output}
-use Rattle.session.specs.Inner.{push, linesOf, unlessLines, restOf, worldAfter, joined, lastOf, inChunks}
+use Rattle.session.specs.Inner.{push, linesOf, unlessLines, restOf, worldAfter, joined, unfinished, inChunks}
 use Rattle.session.proofs.Chunks.{either, lines-nil, rest-nil, lines-here, lines-past, rest-here, rest-past, answers-cons, after-cons}
 
 -- ---- the lines of an input by those that end in a newline
@@ -184,21 +184,21 @@ cut k r h =
 
 -- ---- the whole input
 
-last-lines : (r : List ℕ) → linesOf r ≡ [] → lines r ≡ lastOf r
+last-lines : (r : List ℕ) → linesOf r ≡ [] → lines r ≡ unfinished r
 unfolding lines
 last-lines [] e = refl
 last-lines (b ∷ r) e =
     let t = begun-tail b r e in
     rw (t .0, last-lines r (t .1)) (glue-one r)
   where
-    glue-one : (r : List ℕ) → glue b (lastOf r) ≡ (b ∷ r) ∷ []
+    glue-one : (r : List ℕ) → glue b (unfinished r) ≡ (b ∷ r) ∷ []
     glue-one [] = refl
     glue-one (x ∷ r) = refl
 
-last-alike : (w : World) (k r : List ℕ) → Kept k r → answers w (lastOf k) ≡ answers w (lastOf r)
-last-alike w k r h = ⊎-elim (λ e. ap (λ l. answers w (lastOf l)) e) (λ g. both-long k r (g .0) (g .1)) (h .same)
+last-alike : (w : World) (k r : List ℕ) → Kept k r → answers w (unfinished k) ≡ answers w (unfinished r)
+last-alike w k r h = ⊎-elim (λ e. ap (λ l. answers w (unfinished l)) e) (λ g. both-long k r (g .0) (g .1)) (h .same)
   where
-    both-long : (k r : List ℕ) → 80 < length k → 80 < length r → answers w (lastOf k) ≡ answers w (lastOf r)
+    both-long : (k r : List ℕ) → 80 < length k → 80 < length r → answers w (unfinished k) ≡ answers w (unfinished r)
     both-long [] r g m = absurd (omega (arith, g))
     both-long (x ∷ k) [] g m = absurd (omega (arith, m))
     both-long (x ∷ k) (y ∷ r) g m = rw (answers-cons w (x ∷ k) [], answers-cons w (y ∷ r) [], long-alike (x ∷ k) (y ∷ r) w g m)

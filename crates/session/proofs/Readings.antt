@@ -12,8 +12,8 @@ use lib.ListN.{length, take, length-take}
 use Rattle.spec.specs.Choice.{if_then_else_}
 use Rattle.spec.specs.Set.{clients}
 use Rattle.spec.specs.Rows.{rowsIn, rowAt, valueOf}
-use Rattle.spec.specs.declared.Seen.{Seen}
-use Rattle.spec.specs.declared.Seen.the-variants.{Version, Nothing}
+use Rattle.spec.specs.declared.Lookup.{Lookup}
+use Rattle.spec.specs.declared.Lookup.the-variants.{Version, Nothing}
 use Rattle.spec.specs.Look.{lookFor}
 use Rattle.search.proofs.Below.{look-below}
 use Rattle.spec.specs.declared.Store.{Store}
@@ -23,7 +23,7 @@ use Rattle.spec.specs.declared.Reading.the-variants.{Value, Unwritten}
 use Rattle.spec.specs.Answers.{Answer, Answered, Refused}
 use Rattle.spec.specs.Image.{isOpen, stageOf, numberOf, snapshotOf}
 use Rattle.spec.specs.Calls.{Outcome, cells, reading, read}
-use Rattle.spec.specs.Bytes.{After, seen, leaves, laidOut, fits, after}
+use Rattle.spec.specs.Bytes.{After, decode, afterOf, encode, fits, onBytes}
 use Rattle.spec.specs.Text.{readingText, answerText, lineText}
 use Rattle.spec.specs.Session.{World, worldOf, valueAt}
 use Rattle.spec.proofs.Ends.{fit-of}
@@ -48,26 +48,26 @@ named-if true h g = h
 named-if false h g = g
 
 module _ (k x : ℕ) (s : Store) (d c : List ℕ) where
-  found : (f : Seen) → lookFor (numberOf (seen s d c) k) x (snapshotOf (seen s d c) k) (rowsIn 24 (s .used) d) (rowsIn 8 (s .entries) c) ≡ f
+  found : (f : Lookup) → lookFor (numberOf (decode s d c) k) x (snapshotOf (decode s d c) k) (rowsIn 24 (s .used) d) (rowsIn 8 (s .entries) c) ≡ f
       → Names (λ j. j < s .used) (Answered (reading f))
-  found (Version j n) e = look-below (numberOf (seen s d c) k) x (snapshotOf (seen s d c) k) (s .used) d (rowsIn 8 (s .entries) c) j n e
+  found (Version j n) e = look-below (numberOf (decode s d c) k) x (snapshotOf (decode s d c) k) (s .used) d (rowsIn 8 (s .entries) c) j n e
   found Nothing e = tt
 
-  read-below : Named (λ j. j < s .used) (read k x (seen s d c))
-  unfolding read seen
+  read-below : Named (λ j. j < s .used) (read k x (decode s d c))
+  unfolding read decode
   read-below =
-      named-if (leb clients k) (record { row = tt }) (named-if (leb cells x) (record { row = tt }) (named-if (not (isOpen (seen s d c) k)) (record { row = tt }) (named-if (ltb 11 (stageOf (seen s d c) k)) (record { row = tt }) (record { row = found _ refl }))))
+      named-if (leb clients k) (record { row = tt }) (named-if (leb cells x) (record { row = tt }) (named-if (not (isOpen (decode s d c) k)) (record { row = tt }) (named-if (ltb 11 (stageOf (decode s d c) k)) (record { row = tt }) (record { row = found _ refl }))))
 
   -- the row that a read on record and buffers names stands whole in the buffer
-  pub read-whole : Names (λ j. 24 * j + 24 ≤ length d) (after (read k x) s d c .answer)
-  unfolding after laidOut
+  pub read-whole : Names (λ j. 24 * j + 24 ≤ length d) (onBytes (read k x) s d c .answer)
+  unfolding onBytes encode
   read-whole = go (fits s (length d) (length c)) refl
     where
       go : (t : Bool) → fits s (length d) (length c) ≡ t
-          → Names (λ j. 24 * j + 24 ≤ length d) ((if t then laidOut s d c (read k x (seen s d c)) else leaves s d c (Refused 2)) .answer)
+          → Names (λ j. 24 * j + 24 ≤ length d) ((if t then encode s d c (read k x (decode s d c)) else afterOf s d c (Refused 2)) .answer)
       go true e =
           let f = fit-of s (length d) (length c) e in
-          names-map (λ j. j < s .used) (λ j. 24 * j + 24 ≤ length d) (λ j h. omega (arith, h, f .dataRows, f .dataLength)) (read k x (seen s d c) .answer) (read-below .row)
+          names-map (λ j. j < s .used) (λ j. 24 * j + 24 ≤ length d) (λ j h. omega (arith, h, f .dataRows, f .dataLength)) (read k x (decode s d c) .answer) (read-below .row)
       go false e = tt
 
 -- the text with the bytes that were taken is the text with those of the row
@@ -81,7 +81,7 @@ read-text b w e (Answered Unwritten) h = refl
 read-text b w e (Refused n) h = refl
 
 pub read-printed : (store s : Store) (b b₂ x y v : List ℕ) (k z d c : ℕ) (form : Form) (a : Answer Reading)
-    → leaves s x y a ≡ after (read k z) store (take d b) (take c b₂) → v ≡ valueFrom b a
+    → afterOf s x y a ≡ onBytes (read k z) store (take d b) (take c b₂) → v ≡ valueFrom b a
     → lineText form (answerText (readingText v) a) ≡ lineText form (answerText (λ g. readingText (valueAt (worldOf store b b₂) g) g) a)
 read-printed store s b b₂ x y v k z d c form a e q =
     let n = subst (Names (λ j. 24 * j + 24 ≤ length (take d b))) (sym (ap (λ (o : After Reading). o .answer) e)) (read-whole k z store (take d b) (take c b₂)) in

@@ -79,12 +79,12 @@ joined [] = []
 joined (c ∷ cs) = c ++ joined cs
 
 -- "the last needs no newline": a begun line at the end is a line
-abbrev pub lastOf : List ℕ → List (List ℕ)
-lastOf [] = []
-lastOf (b ∷ l) = (b ∷ l) ∷ []
+abbrev pub unfinished : List ℕ → List (List ℕ)
+unfinished [] = []
+unfinished (b ∷ l) = (b ∷ l) ∷ []
 
 -- the answers to the whole lines of a chunk behind what was kept; of the line that it leaves begun, 81 bytes at most are kept
 unfoldable pub inChunks : World → List ℕ → List (List ℕ) → List ℕ
-inChunks w kept [] = answers w (lastOf kept)
+inChunks w kept [] = answers w (unfinished kept)
 inChunks w kept (c ∷ cs) =
     answers w (linesOf (kept ++ c)) ++ inChunks (worldAfter w (linesOf (kept ++ c))) (take 81 (restOf (kept ++ c))) cs

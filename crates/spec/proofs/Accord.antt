@@ -10,7 +10,7 @@ use native.Mathlib.Omega.{arith}
 use borrow.Author.Tests.{le-ltb, le-leb, lt-leb, eq-eqb, ne-eqb}
 use Rattle.spec.specs.Choice.{if_then_else_}
 use Rattle.spec.specs.Set.{clients, bit, member, insert, remove, size, collect, strike}
-use Rattle.spec.specs.Rows.{Row, rowsIn, rowsFrom, laid, number, bytesOf, dataRow, tagOf, cellOf, commitRow, commitNumber, commitTag, filter, hasTag}
+use Rattle.spec.specs.Rows.{Row, rowsIn, rowsFrom, layout, number, bytesOf, dataRow, tagOf, cellOf, commitRow, commitNumber, commitTag, filter, hasTag}
 use Rattle.spec.specs.Numbers.{lesser, smallest, above}
 use Rattle.spec.specs.Look.{commitOf, isOwn}
 use Rattle.spec.specs.Share.{any, wrote, cellsOf, shares, clash, conflict}
@@ -19,9 +19,9 @@ use Rattle.spec.specs.declared.Progress.the-variants.{Stage, Waiting, Co
 use Rattle.spec.specs.declared.Store.{Store}
 use Rattle.spec.specs.Answers.{Answer, Answered, Refused, unfit, noClient, notOpen, wrongStage, cellLimit}
 use Rattle.spec.specs.Image.{Clients, Image, countersOf, clientsOf, imageOf, withClients, withRows, cleared, closed, stageOf, numberOf, isOpen, zeros, empty}
-use Rattle.spec.specs.Calls.{cells, top, gives, refuse, free, begin, read, write, added, removed, abandon, readers, low, trimmedTo, trim}
+use Rattle.spec.specs.Calls.{cells, top, replies, refuse, free, begin, read, write, added, removed, abandon, readers, low, trimmedTo, trim}
 use Rattle.spec.specs.Steps.{queued, struck, others, goOn, finished, enter, listRequests, looked, lookRequests, listCommits, lookCommits, check, advance}
-use Rattle.spec.specs.Bytes.{countersIn, clientsIn, recordOf, seen, storeOf, After, leaves, laidOut, known, fits, after, accepts, setUp}
+use Rattle.spec.specs.Bytes.{countersIn, clientsIn, recordOf, decode, storeOf, After, afterOf, encode, known, fits, onBytes, accepts, setUp}
 
 -- ---- the cell limit (document 02, 9): d and c are the bytes of the buffers, w the first W
 
@@ -33,7 +33,7 @@ zero-is-eight d c w = refl
 -- what a set-up left, with another cell limit in the record where it was answered
 abbrev limited : ℕ → After ℕ → Answer ℕ → After ℕ
 limited l a (Answered n) =
-    leaves (recordOf (a .store .rows) l (countersIn (a .store)) (clientsIn (a .store)) (a .store .used) (a .store .entries)) (a .dataBytes) (a .commitBytes) (Answered n)
+    afterOf (recordOf (a .store .rows) l (countersIn (a .store)) (clientsIn (a .store)) (a .store .used) (a .store .entries)) (a .dataBytes) (a .commitBytes) (Answered n)
 limited l a (Refused n) = a
 
 abbrev pub withLimit : ℕ → After ℕ → After ℕ
@@ -102,12 +102,12 @@ client-63 v i l c = rw (eq-eqb (length v) 16 l, c) (refl, refl, refl, refl)
 abbrev lastAt : ℕ → Store
 lastAt g = recordOf 1 8 (countersOf 0 0 0 0) (clientsOf (set zeros 63 g) zeros zeros zeros zeros zeros zeros) 0 0
 
-pub stage-13 : after free (lastAt 13) (replicate 24 0) (replicate 8 0) ≡ leaves (lastAt 13) (replicate 24 0) (replicate 8 0) (Answered 1)
-unfolding after fits known laidOut seen storeOf free laid rowsIn rowsFrom flatten
+pub stage-13 : onBytes free (lastAt 13) (replicate 24 0) (replicate 8 0) ≡ afterOf (lastAt 13) (replicate 24 0) (replicate 8 0) (Answered 1)
+unfolding onBytes fits known encode decode storeOf free layout rowsIn rowsFrom flatten
 stage-13 = refl
 
-pub stage-14 : after free (lastAt 14) (replicate 24 0) (replicate 8 0) ≡ leaves (lastAt 14) (replicate 24 0) (replicate 8 0) (Refused unfit)
-unfolding after fits known
+pub stage-14 : onBytes free (lastAt 14) (replicate 24 0) (replicate 8 0) ≡ afterOf (lastAt 14) (replicate 24 0) (replicate 8 0) (Refused unfit)
+unfolding onBytes fits known
 stage-14 = refl
 
 -- ---- Read and Write during a commit (document 02, 1)
@@ -116,7 +116,7 @@ stage-14 = refl
 abbrev staged : List ℕ → Image → Image
 staged g i =
     let c : Clients = i .clients in
-    withClients i (clientsOf g (c .number) (c .snapshot) (c .request) (c .commit) (c .blockers) (c .ahead))
+    withClients i (clientsOf g (c .number) (c .snapshot) (c .request) (c .commit) (c .requestWaits) (c .commitWaits))
 
 -- "Read now answers at stages 1 to 11 with the same snapshot and the transaction's own writes": at the first and at the last of them as it would
 -- at stage 0 (the plain table speaks of all of them)
@@ -143,7 +143,7 @@ write-while-waiting k x v i h g l o (inr e) = rw (lt-leb clients k h, lt-leb cel
 -- ---- Advance
 
 -- "Waiting with the number of transactions still on its list": while one is left, the stage stays
-pub wait-first : (g k w : ℕ) (i : Image) → (w ≡ 0 → ⊥) → looked g k w i ≡ gives i (Waiting (size clients w))
+pub wait-first : (g k w : ℕ) (i : Image) → (w ≡ 0 → ⊥) → looked g k w i ≡ replies i (Waiting (size clients w))
 unfolding looked
 wait-first g k w i h = rw (ne-eqb w 0 h)
 
@@ -158,28 +158,28 @@ three a b c = set (set (set zeros 0 a) 1 b) 2 c
 -- "look: strike rows that are gone and rows with a larger noted number"; "list [..] once"; "look, as at 4, by commit number". Clients 0, 1 and 2
 -- wrote cell 7, by transactions 1, 2 and 3. Client 0 has number 1 in both queues and client 1 number 2; client 2 enters last
 abbrev entering : List ℕ → List ℕ → List ℕ → Image
-entering stages blockers ahead =
-    imageOf 4 16 (countersOf 3 2 2 0) (clientsOf stages (three 1 2 3) zeros (three 1 2 0) (three 1 2 0) blockers ahead)
+entering stages requestWaits commitWaits =
+    imageOf 4 16 (countersOf 3 2 2 0) (clientsOf stages (three 1 2 3) zeros (three 1 2 0) (three 1 2 0) requestWaits commitWaits)
     (dataRow 1 7 value ∷ dataRow 2 7 value ∷ dataRow 3 7 value ∷ []) []
 
 -- client 0 has client 1 on its list, which has noted its number: it is struck, and client 2, entered since, does not come in
-pub larger-struck : lookRequests 0 (entering (three 4 3 1) (three 2 0 0) zeros) ≡ gives (entering (three 5 3 1) zeros zeros) (Stage 5)
+pub larger-struck : lookRequests 0 (entering (three 4 3 1) (three 2 0 0) zeros) ≡ replies (entering (three 5 3 1) zeros zeros) (Stage 5)
 unfolding
     lookRequests looked goOn struck queued strike bit member remove insert size collect others
     shares any wrote isOwn hasTag tagOf cellOf number dataRow bytesOf
 larger-struck = refl
 
-pub larger-commit-struck : lookCommits 0 (entering (three 10 9 7) zeros (three 2 0 0)) ≡ gives (entering (three 11 9 7) zeros zeros) (Stage 11)
+pub larger-commit-struck : lookCommits 0 (entering (three 10 9 7) zeros (three 2 0 0)) ≡ replies (entering (three 11 9 7) zeros zeros) (Stage 11)
 unfolding lookCommits looked goOn struck queued strike bit member remove insert size collect others
 larger-commit-struck = refl
 
 -- "A row without a noted number is not struck": client 1 has its number, and has not noted it
-pub unnoted-kept : lookRequests 0 (entering (three 4 2 1) (three 2 0 0) zeros) ≡ gives (entering (three 4 2 1) (three 2 0 0) zeros) (Waiting 1)
+pub unnoted-kept : lookRequests 0 (entering (three 4 2 1) (three 2 0 0) zeros) ≡ replies (entering (three 4 2 1) (three 2 0 0) zeros) (Waiting 1)
 unfolding lookRequests looked goOn struck queued strike bit member remove size
 unnoted-kept = refl
 
 -- client 1 has client 0 on its list, and waits
-pub smaller-kept : lookRequests 1 (entering (three 4 4 1) (three 0 1 0) zeros) ≡ gives (entering (three 4 4 1) (three 0 1 0) zeros) (Waiting 1)
+pub smaller-kept : lookRequests 1 (entering (three 4 4 1) (three 0 1 0) zeros) ≡ replies (entering (three 4 4 1) (three 0 1 0) zeros) (Waiting 1)
 unfolding lookRequests looked goOn struck queued strike bit member remove size
 smaller-kept = refl
 
@@ -189,30 +189,30 @@ abbrev two : ℕ → ℕ → List ℕ
 two a b = set (set zeros 40 a) 63 b
 
 abbrev farApart : List ℕ → List ℕ → List ℕ → Image
-farApart stages blockers ahead =
-    imageOf 4 8 (countersOf 2 2 2 0) (clientsOf stages (two 1 2) zeros (two 1 2) (two 1 2) blockers ahead) (dataRow 1 7 value ∷ dataRow 2 7 value ∷ []) []
+farApart stages requestWaits commitWaits =
+    imageOf 4 8 (countersOf 2 2 2 0) (clientsOf stages (two 1 2) zeros (two 1 2) (two 1 2) requestWaits commitWaits) (dataRow 1 7 value ∷ dataRow 2 7 value ∷ []) []
 
-pub lists-63 : listRequests 40 (farApart (two 3 3) zeros zeros) ≡ gives (farApart (two 4 3) (two 9223372036854775808 0) zeros) (Stage 4)
+pub lists-63 : listRequests 40 (farApart (two 3 3) zeros zeros) ≡ replies (farApart (two 4 3) (two 9223372036854775808 0) zeros) (Stage 4)
 unfolding listRequests goOn queued others collect insert member bit shares any wrote isOwn hasTag tagOf cellOf number dataRow bytesOf
 lists-63 = refl
 
-pub lists-40 : listCommits 63 (farApart (two 9 9) zeros zeros) ≡ gives (farApart (two 9 10) zeros (two 0 1099511627776)) (Stage 10)
+pub lists-40 : listCommits 63 (farApart (two 9 9) zeros zeros) ≡ replies (farApart (two 9 10) zeros (two 0 1099511627776)) (Stage 10)
 unfolding listCommits goOn queued others collect insert member bit
 lists-40 = refl
 
 -- client 40 strikes client 63, which has the larger number, and client 63 waits for client 40; in the other queue alike
-pub strikes-63 : lookRequests 40 (farApart (two 4 3) (two 9223372036854775808 0) zeros) ≡ gives (farApart (two 5 3) zeros zeros) (Stage 5)
+pub strikes-63 : lookRequests 40 (farApart (two 4 3) (two 9223372036854775808 0) zeros) ≡ replies (farApart (two 5 3) zeros zeros) (Stage 5)
 unfolding lookRequests looked goOn struck queued strike bit member remove
 strikes-63 = refl
 
 abbrev waiting : Image
 waiting = farApart (two 4 4) (two 0 1099511627776) zeros
 
-pub waits-for-40 : advance 63 waiting ≡ gives waiting (Waiting 1)
+pub waits-for-40 : advance 63 waiting ≡ replies waiting (Waiting 1)
 unfolding advance lookRequests looked goOn struck queued strike bit member remove size
 waits-for-40 = refl
 
-pub strikes-63-commit : lookCommits 40 (farApart (two 10 9) zeros (two 9223372036854775808 0)) ≡ gives (farApart (two 11 9) zeros zeros) (Stage 11)
+pub strikes-63-commit : lookCommits 40 (farApart (two 10 9) zeros (two 9223372036854775808 0)) ≡ replies (farApart (two 11 9) zeros zeros) (Stage 11)
 unfolding lookCommits looked goOn struck queued strike bit member remove
 strikes-63-commit = refl
 
@@ -228,14 +228,14 @@ abbrev left : Image
 left = meeting (clientsOf (three 0 4 0) (three 0 3 0) zeros (three 0 3 0) zeros zeros zeros) (dataRow 3 7 value ∷ [])
 
 -- "check commits above S for a shared cell"
-pub next-commit : check 0 met ≡ gives left (Conflict 1)
+pub next-commit : check 0 met ≡ replies left (Conflict 1)
 unfolding
     check removed closed cleared bit member remove conflict clash wrote any isOwn commitOf above smallest lesser filter
     hasTag tagOf cellOf commitTag commitNumber number dataRow commitRow bytesOf
 next-commit = refl
 
 -- "Abandon removes the transaction's data rows and queue rows in one step"
-pub abandon-leaves : abandon 0 met ≡ gives left 2
+pub abandon-leaves : abandon 0 met ≡ replies left 2
 unfolding abandon removed closed cleared bit member remove filter hasTag tagOf number dataRow bytesOf
 abandon-leaves = refl
 
@@ -251,7 +251,7 @@ underway = clientsOf (set zeros 1 8) (set zeros 1 4) (set zeros 1 2) (set zeros 
 abbrev andEnquiry : Clients
 andEnquiry = clientsOf (underway .stage) (set (underway .number) 0 5) (set (underway .snapshot) 0 1) (underway .request) (underway .commit) zeros zeros
 
-pub done-unchanged : advance 0 (storeWith andEnquiry) ≡ gives (storeWith underway) (Done 1)
+pub done-unchanged : advance 0 (storeWith andEnquiry) ≡ replies (storeWith underway) (Done 1)
 unfolding advance enter finished goOn closed cleared bit member remove any hasTag tagOf number dataRow bytesOf
 done-unchanged = refl
 
@@ -267,6 +267,6 @@ abbrev thrice : Image
 thrice =
     imageOf 4 16 (countersOf 3 3 3 3) closedAll (dataRow 1 7 value ∷ dataRow 2 7 value ∷ dataRow 3 7 value ∷ []) (commitRow 1 1 ∷ commitRow 2 2 ∷ commitRow 3 3 ∷ [])
 
-pub one-row-left : trim thrice ≡ gives (withRows thrice (dataRow 3 7 value ∷ []) (commitRow 3 3 ∷ [])) 2
+pub one-row-left : trim thrice ≡ replies (withRows thrice (dataRow 3 7 value ∷ []) (commitRow 3 3 ∷ [])) 2
 unfolding trim trimmedTo low readers smallest lesser trimmedRows stays overtaken later between inUse trimmedCommits any commitOf filter hasTag tagOf cellOf commitTag commitNumber number dataRow commitRow bytesOf
 one-row-left = refl

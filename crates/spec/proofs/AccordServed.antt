@@ -7,7 +7,7 @@ use mathlib.Core.List.{List, [], _∷_}
 use Rattle.spec.specs.Rows.{Row, dataRow, commitRow, bytesOf, number, tagOf, cellOf, commitTag, commitNumber}
 use Rattle.spec.specs.Look.{isOwn}
 use Rattle.spec.specs.Share.{any, wrote}
-use Rattle.spec.specs.Served.{serves, served}
+use Rattle.spec.specs.Marked.{marksCell, marked}
 
 abbrev value : List ℕ
 value = 0 ∷ 1 ∷ 2 ∷ 3 ∷ 4 ∷ 5 ∷ 6 ∷ 7 ∷ 8 ∷ 9 ∷ 10 ∷ 11 ∷ 12 ∷ 13 ∷ 14 ∷ 15 ∷ []
@@ -32,35 +32,35 @@ abbrev all : List Row
 all = commitRow 1 1 ∷ last-two
 
 -- where low is 2 the last row marks nothing, the one before it cell 8, the first cell 7 too
-pub above-low : served 2 ds last 9 ≡ false
-unfolding served serves any wrote isOwn tagOf cellOf commitTag commitNumber number dataRow commitRow bytesOf
+pub above-low : marked 2 ds last 9 ≡ false
+unfolding marked marksCell any wrote isOwn tagOf cellOf commitTag commitNumber number dataRow commitRow bytesOf
 above-low = refl
 
-pub at-low : served 2 ds last-two 8 ≡ true
-unfolding served serves any wrote isOwn tagOf cellOf commitTag commitNumber number dataRow commitRow bytesOf
+pub at-low : marked 2 ds last-two 8 ≡ true
+unfolding marked marksCell any wrote isOwn tagOf cellOf commitTag commitNumber number dataRow commitRow bytesOf
 at-low = refl
 
-pub not-yet : served 2 ds last-two 7 ≡ false
-unfolding served serves any wrote isOwn tagOf cellOf commitTag commitNumber number dataRow commitRow bytesOf
+pub not-yet : marked 2 ds last-two 7 ≡ false
+unfolding marked marksCell any wrote isOwn tagOf cellOf commitTag commitNumber number dataRow commitRow bytesOf
 not-yet = refl
 
-pub first-marks : served 2 ds all 7 ≡ true
-unfolding served serves any wrote isOwn tagOf cellOf commitTag commitNumber number dataRow commitRow bytesOf
+pub first-marks : marked 2 ds all 7 ≡ true
+unfolding marked marksCell any wrote isOwn tagOf cellOf commitTag commitNumber number dataRow commitRow bytesOf
 first-marks = refl
 
-pub still : served 2 ds all 8 ≡ true
-unfolding served serves any wrote isOwn tagOf cellOf commitTag commitNumber number dataRow commitRow bytesOf
+pub still : marked 2 ds all 8 ≡ true
+unfolding marked marksCell any wrote isOwn tagOf cellOf commitTag commitNumber number dataRow commitRow bytesOf
 still = refl
 
-pub never : served 2 ds all 9 ≡ false
-unfolding served serves any wrote isOwn tagOf cellOf commitTag commitNumber number dataRow commitRow bytesOf
+pub never : marked 2 ds all 9 ≡ false
+unfolding marked marksCell any wrote isOwn tagOf cellOf commitTag commitNumber number dataRow commitRow bytesOf
 never = refl
 
 -- where low is 3 the last row marks cell 9; what is not committed is marked by none
-pub up-to-low : served 3 ds last 9 ≡ true
-unfolding served serves any wrote isOwn tagOf cellOf commitTag commitNumber number dataRow commitRow bytesOf
+pub up-to-low : marked 3 ds last 9 ≡ true
+unfolding marked marksCell any wrote isOwn tagOf cellOf commitTag commitNumber number dataRow commitRow bytesOf
 up-to-low = refl
 
-pub not-committed : served 3 ds all 6 ≡ false
-unfolding served serves any wrote isOwn tagOf cellOf commitTag commitNumber number dataRow commitRow bytesOf
+pub not-committed : marked 3 ds all 6 ≡ false
+unfolding marked marksCell any wrote isOwn tagOf cellOf commitTag commitNumber number dataRow commitRow bytesOf
 not-committed = refl

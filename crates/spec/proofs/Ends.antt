@@ -8,14 +8,14 @@ use borrow.Author.Tests.{eqb-true, eqb-false, ltb-false, not-false}
 use lib.Dec.{eqb, ltb}
 use lib.ListN.{length}
 use Rattle.spec.specs.Choice.{if_then_else_}
-use Rattle.spec.specs.Rows.{rowsIn, laid}
+use Rattle.spec.specs.Rows.{rowsIn, layout}
 use Rattle.spec.proofs.Rows.{length-rows}
 use Rattle.spec.proofs.Laid.{laid-same}
 use Rattle.spec.specs.declared.Store.{Store}
 use Rattle.spec.specs.Answers.{Answer, Refused, unfit}
 use Rattle.spec.specs.Image.{Counters, Clients, imageOf, Image}
 use Rattle.spec.specs.Calls.{Outcome}
-use Rattle.spec.specs.Bytes.{countersIn, clientsIn, recordOf, seen, storeOf, After, leaves, laidOut, fits, after, accepts}
+use Rattle.spec.specs.Bytes.{countersIn, clientsIn, recordOf, decode, storeOf, After, afterOf, encode, fits, onBytes, accepts}
 
 -- the tests of a chain that ends in true
 pub unless : (a b : Bool) → (if a then false else b) ≡ true → (a ≡ false) × (b ≡ true)
@@ -76,42 +76,42 @@ accepted d c w l e =
 module _ {A : Type 0} (s : Store) (d c : List ℕ) where
   -- an outcome laid out, by its record and its buffers
   pub ends : (o : Outcome A) (s′ : Store) (d′ c′ : List ℕ) (a : Answer A)
-      → s′ ≡ storeOf (o .image) → d′ ≡ laid 24 (s .used) (o .image .dataRows) d → c′ ≡ laid 8 (s .entries) (o .image .commitRows) c → a ≡ o .answer
-      → leaves s′ d′ c′ a ≡ laidOut s d c o
-  unfolding laidOut
+      → s′ ≡ storeOf (o .image) → d′ ≡ layout 24 (s .used) (o .image .dataRows) d → c′ ≡ layout 8 (s .entries) (o .image .commitRows) c → a ≡ o .answer
+      → afterOf s′ d′ c′ a ≡ encode s d c o
+  unfolding encode
   ends o s′ d′ c′ a e f g h = rw (e, f, g, h)
 
   -- one that leaves the rows as they were
   pub ends-same : (n : Counters) (k : Clients) (a : Answer A)
-      → leaves (recordOf (s .rows) (s .limit) n k (s .used) (s .entries)) d c a
-      ≡ laidOut s d c (record { image = imageOf (s .rows) (s .limit) n k (rowsIn 24 (s .used) d) (rowsIn 8 (s .entries) c); answer = a })
-  unfolding laidOut storeOf
+      → afterOf (recordOf (s .rows) (s .limit) n k (s .used) (s .entries)) d c a
+      ≡ encode s d c (record { image = imageOf (s .rows) (s .limit) n k (rowsIn 24 (s .used) d) (rowsIn 8 (s .entries) c); answer = a })
+  unfolding encode storeOf
   ends-same n k a = rw (length-rows 24 (s .used) d, length-rows 8 (s .entries) c, laid-same 24 (s .used) d, laid-same 8 (s .entries) c)
 
   -- nothing changed
-  pub stays : (o : Outcome A) (a : Answer A) → o ≡ record { image = seen s d c; answer = a } → leaves s d c a ≡ laidOut s d c o
-  unfolding seen
+  pub stays : (o : Outcome A) (a : Answer A) → o ≡ record { image = decode s d c; answer = a } → afterOf s d c a ≡ encode s d c o
+  unfolding decode
   stays o a e = rw e (ends-same (countersIn s) (clientsIn s) a)
 
   module _ (f : Image → Outcome A) where
     -- a store that is not fit
-    pub ends-unfit : fits s (length d) (length c) ≡ false → leaves s d c (Refused unfit) ≡ after f s d c
-    unfolding after
+    pub ends-unfit : fits s (length d) (length c) ≡ false → afterOf s d c (Refused unfit) ≡ onBytes f s d c
+    unfolding onBytes
     ends-unfit e = rw e
 
     -- a fit one: what the call makes of the image, laid out
-    pub goes : {o : After A} → fits s (length d) (length c) ≡ true → o ≡ laidOut s d c (f (seen s d c)) → o ≡ after f s d c
-    unfolding after
+    pub goes : {o : After A} → fits s (length d) (length c) ≡ true → o ≡ encode s d c (f (decode s d c)) → o ≡ onBytes f s d c
+    unfolding onBytes
     goes e h = rw e h
 
     -- a call that leaves the rows as they were
     pub settles : (n : Counters) (k : Clients) (a : Answer A) → fits s (length d) (length c) ≡ true
-        → f (seen s d c) ≡ record { image = imageOf (s .rows) (s .limit) n k (rowsIn 24 (s .used) d) (rowsIn 8 (s .entries) c); answer = a }
-        → leaves (recordOf (s .rows) (s .limit) n k (s .used) (s .entries)) d c a ≡ after f s d c
-    unfolding after
+        → f (decode s d c) ≡ record { image = imageOf (s .rows) (s .limit) n k (rowsIn 24 (s .used) d) (rowsIn 8 (s .entries) c); answer = a }
+        → afterOf (recordOf (s .rows) (s .limit) n k (s .used) (s .entries)) d c a ≡ onBytes f s d c
+    unfolding onBytes
     settles n k a e h = rw (e, h) (ends-same n k a)
 
     -- a refusal
-    pub refuses : (a : Answer A) → fits s (length d) (length c) ≡ true → f (seen s d c) ≡ record { image = seen s d c; answer = a } → leaves s d c a ≡ after f s d c
-    unfolding seen
+    pub refuses : (a : Answer A) → fits s (length d) (length c) ≡ true → f (decode s d c) ≡ record { image = decode s d c; answer = a } → afterOf s d c a ≡ onBytes f s d c
+    unfolding decode
     refuses a e h = settles (countersIn s) (clientsIn s) a e h

@@ -1,4 +1,4 @@
--- Laws of `laid`: what a buffer's bytes and rows are when other rows are in use.
+-- Laws of `layout`: what a buffer's bytes and rows are when other rows are in use.
 -- Assumes nothing.
 use Prim.Native.Nat.{ℕ, suc, _+_, _*_, _-_, _≤_, _<_}
 use mathlib.Core.Path.{_≡_, refl, _∙_}
@@ -6,33 +6,33 @@ use mathlib.Core.List.{List, [], _∷_, _++_, append-assoc, append-nil, flatten}
 use native.Mathlib.Nat.{add-zero, mul-zero, mul-suc, mul-add, mul-sub, mul-le-mul-left}
 use native.Mathlib.Omega.{arith}
 use lib.ListN.{length, take, drop, getD, set, replicate, length-append, length-drop, length-replicate}
-use Rattle.spec.specs.Rows.{Row, spliced, rowsIn, laid}
+use Rattle.spec.specs.Rows.{Row, spliced, rowsIn, layout}
 use Rattle.spec.proofs.Bytes.{drop-later, drop-spliced}
 use Rattle.spec.proofs.Rows.{length-rows, row-inside, Wide, rows-flat, flat-rows, length-flat, flat-append, flat-front, rows-at, rows-replaced}
 
 -- ---- what a call does to a buffer, by what the code does to it
 
 -- the rows of a buffer b′ that has the same bytes behind them
-pub laid-kept : (w n : ℕ) (b b′ : List ℕ) → drop (w * n) b′ ≡ drop (w * n) b → laid w n (rowsIn w n b′) b ≡ b′
-unfolding laid
+pub laid-kept : (w n : ℕ) (b b′ : List ℕ) → drop (w * n) b′ ≡ drop (w * n) b → layout w n (rowsIn w n b′) b ≡ b′
+unfolding layout
 laid-kept w n b b′ e =
     let z : n - n ≡ 0 = omega arith in
     rw (length-rows w n b′, z, mul-zero w, add-zero n, append-nil, ← e) (flat-rows w n b′)
 
 -- nothing changed
-pub laid-same : (w n : ℕ) (b : List ℕ) → laid w n (rowsIn w n b) b ≡ b
+pub laid-same : (w n : ℕ) (b : List ℕ) → layout w n (rowsIn w n b) b ≡ b
 laid-same w n b = laid-kept w n b b refl
 
 -- rows were removed
-pub laid-fewer : (w n : ℕ) (rs : List Row) (s : List ℕ) → length rs ≤ n → laid w n rs s ≡ flatten rs ++ replicate (w * n - w * length rs) 0 ++ drop (w * n) s
-unfolding laid
+pub laid-fewer : (w n : ℕ) (rs : List Row) (s : List ℕ) → length rs ≤ n → layout w n rs s ≡ flatten rs ++ replicate (w * n - w * length rs) 0 ++ drop (w * n) s
+unfolding layout
 laid-fewer w n rs s h =
     let e : length rs + (n - length rs) ≡ n = omega arith in
     rw (e, mul-sub w n (length rs))
 
 -- a row was added behind the last in use
-pub laid-append : (w n : ℕ) (r b : List ℕ) → length r ≡ w → w * n ≤ length b → laid w n (rowsIn w n b ++ (r ∷ [])) b ≡ spliced (w * n) r b
-unfolding laid spliced flatten
+pub laid-append : (w n : ℕ) (r b : List ℕ) → length r ≡ w → w * n ≤ length b → layout w n (rowsIn w n b ++ (r ∷ [])) b ≡ spliced (w * n) r b
+unfolding layout spliced flatten
 laid-append w n r b h l =
     let e : length (rowsIn w n b ++ (r ∷ [])) ≡ suc n = length-append (rowsIn w n b) (r ∷ []) ∙ rw (length-rows w n b) (omega arith) in
     let z : n - suc n ≡ 0 = omega arith in
@@ -41,7 +41,7 @@ laid-append w n r b h l =
 
 -- a row was written over in part
 pub laid-set : (w n i at : ℕ) (v b : List ℕ) → i < n → at + length v ≤ w → w * n ≤ length b
-    → laid w n (set (rowsIn w n b) i (spliced at v (getD (rowsIn w n b) i []))) b ≡ spliced (w * i + at) v b
+    → layout w n (set (rowsIn w n b) i (spliced at v (getD (rowsIn w n b) i []))) b ≡ spliced (w * i + at) v b
 laid-set w n i at v b h g l =
     let in-row : w * i + w ≤ length b = row-inside w i n (length b) h l in
     let before : w * i + w ≤ w * n = row-inside w i n (w * n) h (omega arith) in
@@ -51,12 +51,12 @@ laid-set w n i at v b h g l =
 
 -- ---- what is read back
 
-pub rows-laid : (w n : ℕ) (rs : List Row) (b : List ℕ) → Wide w rs → rowsIn w (length rs) (laid w n rs b) ≡ rs
-unfolding laid
+pub rows-laid : (w n : ℕ) (rs : List Row) (b : List ℕ) → Wide w rs → rowsIn w (length rs) (layout w n rs b) ≡ rs
+unfolding layout
 rows-laid w n rs b h = rw append-assoc (rows-flat w rs (replicate (w * (n - length rs)) 0 ++ drop (w * (length rs + (n - length rs))) b) h)
 
-pub length-laid : (w n m : ℕ) (rs : List Row) (b : List ℕ) → Wide w rs → length rs ≤ m → n ≤ m → length b ≡ w * m → length (laid w n rs b) ≡ length b
-unfolding laid
+pub length-laid : (w n m : ℕ) (rs : List Row) (b : List ℕ) → Wide w rs → length rs ≤ m → n ≤ m → length b ≡ w * m → length (layout w n rs b) ≡ length b
+unfolding layout
 length-laid w n m rs b h g k l =
     let x : ℕ = length rs + (n - length rs) in
     let low : w * x ≤ w * m = mul-le-mul-left w (omega arith) in

@@ -7,7 +7,7 @@ use lib.ListN.{length, getD, replicate}
 use lib.Dec.{ltb, eqb}
 use Rattle.spec.specs.Choice.{if_then_else_}
 use Rattle.spec.specs.Set.{clients}
-use Rattle.spec.specs.Rows.{rowsIn, laid}
+use Rattle.spec.specs.Rows.{rowsIn, layout}
 use Rattle.spec.specs.declared.Store.{Store}
 use Rattle.spec.specs.Answers.{Answer, Answered, Refused, badSetUp, unfit}
 use Rattle.spec.specs.Image.{Counters, countersOf, Clients, clientsOf, imageOf, Image, empty}
@@ -19,7 +19,7 @@ abbrev pub countersIn : Store → Counters
 countersIn s = countersOf (s .issued) (s .requested) (s .taken) (s .last)
 
 abbrev pub clientsIn : Store → Clients
-clientsIn s = clientsOf (s .stage) (s .number) (s .snapshot) (s .request) (s .commit) (s .blockers) (s .ahead)
+clientsIn s = clientsOf (s .stage) (s .number) (s .snapshot) (s .request) (s .commit) (s .requestWaits) (s .commitWaits)
 
 abbrev pub recordOf : ℕ → ℕ → Counters → Clients → ℕ → ℕ → Store
 recordOf r l n c d m = record {
@@ -36,13 +36,13 @@ recordOf r l n c d m = record {
   snapshot = c .snapshot;
   request = c .request;
   commit = c .commit;
-  blockers = c .blockers;
-  ahead = c .ahead;
+  requestWaits = c .requestWaits;
+  commitWaits = c .commitWaits;
 }
 
 -- the image that a record and two buffers show
-unfoldable pub seen : Store → List ℕ → List ℕ → Image
-seen s d c = imageOf (s .rows) (s .limit) (countersIn s) (clientsIn s) (rowsIn 24 (s .used) d) (rowsIn 8 (s .entries) c)
+unfoldable pub decode : Store → List ℕ → List ℕ → Image
+decode s d c = imageOf (s .rows) (s .limit) (countersIn s) (clientsIn s) (rowsIn 24 (s .used) d) (rowsIn 8 (s .entries) c)
 
 -- the record of an image
 unfoldable pub storeOf : Image → Store
@@ -57,12 +57,12 @@ pub record After (A : Type 0) : Type 0 where
   pub commitBytes : List ℕ
   pub answer : Answer A
 
-abbrev pub leaves : {A : Type 0} → Store → List ℕ → List ℕ → Answer A → After A
-leaves s d c a = record { store = s; dataBytes = d; commitBytes = c; answer = a }
+abbrev pub afterOf : {A : Type 0} → Store → List ℕ → List ℕ → Answer A → After A
+afterOf s d c a = record { store = s; dataBytes = d; commitBytes = c; answer = a }
 
-unfoldable pub laidOut : {A : Type 0} → Store → List ℕ → List ℕ → Outcome A → After A
-laidOut s d c o =
-    leaves (storeOf (o .image)) (laid 24 (s .used) (o .image .dataRows) d) (laid 8 (s .entries) (o .image .commitRows) c) (o .answer)
+unfoldable pub encode : {A : Type 0} → Store → List ℕ → List ℕ → Outcome A → After A
+encode s d c o =
+    afterOf (storeOf (o .image)) (layout 24 (s .used) (o .image .dataRows) d) (layout 8 (s .entries) (o .image .commitRows) c) (o .answer)
 
 -- the stages of the clients below n are known ones
 unfoldable pub known : List ℕ → ℕ → Bool
@@ -82,10 +82,10 @@ fits s d c =
     known (s .stage) clients
 
 -- 2 for an unfit store, and else what the call makes of the image, laid out in its place
-unfoldable pub after : {A : Type 0} → (Image → Outcome A) → Store → List ℕ → List ℕ → After A
-after f s d c =
-    if fits s (length d) (length c) then laidOut s d c (f (seen s d c)) else
-    leaves s d c (Refused unfit)
+unfoldable pub onBytes : {A : Type 0} → (Image → Outcome A) → Store → List ℕ → List ℕ → After A
+onBytes f s d c =
+    if fits s (length d) (length c) then encode s d c (f (decode s d c)) else
+    afterOf s d c (Refused unfit)
 
 -- ---- "Set-up is given the buffers, the first W and the cell limit", and document 02, 9: "A cell limit of 0 at set-up now stands for 8."
 
@@ -111,5 +111,5 @@ unfoldable pub setUp : List ℕ → List ℕ → ℕ → ℕ → After ℕ
 setUp d c w l =
     let r : ℕ = length d / 24 in
     if accepts (length d) (length c) w l
-    then leaves (storeOf (empty r (limitOf l) (w - 1))) (replicate (length d) 0) (replicate (length c) 0) (Answered r)
-    else leaves (storeOf (empty 0 0 0)) d c (Refused badSetUp)
+    then afterOf (storeOf (empty r (limitOf l) (w - 1))) (replicate (length d) 0) (replicate (length c) 0) (Answered r)
+    else afterOf (storeOf (empty 0 0 0)) d c (Refused badSetUp)

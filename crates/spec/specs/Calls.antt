@@ -14,8 +14,8 @@ use Rattle.spec.specs.declared.Number.{Number}
 use Rattle.spec.specs.declared.Number.the-variants.{Some, None}
 use Rattle.spec.specs.declared.Found.{Found}
 use Rattle.spec.specs.declared.Found.the-variants.{At, Missing}
-use Rattle.spec.specs.declared.Seen.{Seen}
-use Rattle.spec.specs.declared.Seen.the-variants.{Version, Nothing}
+use Rattle.spec.specs.declared.Lookup.{Lookup}
+use Rattle.spec.specs.declared.Lookup.the-variants.{Version, Nothing}
 use Rattle.spec.specs.Numbers.{smallest}
 use Rattle.spec.specs.Look.{isOwn, find, lookFor}
 use Rattle.spec.specs.Share.{cellsOf}
@@ -31,8 +31,8 @@ pub record Outcome (A : Type 0) : Type 0 where
   pub image : Image
   pub answer : Answer A
 
-abbrev pub gives : {A : Type 0} → Image → A → Outcome A
-gives i a = record { image = i; answer = Answered a }
+abbrev pub replies : {A : Type 0} → Image → A → Outcome A
+replies i a = record { image = i; answer = Answered a }
 
 abbrev pub refuse : {A : Type 0} → ℕ → Image → Outcome A
 refuse n i = record { image = i; answer = Refused n }
@@ -50,11 +50,11 @@ top = 4294967295
 abbrev pub freeRows : Image → ℕ
 freeRows i = i .rows - length (i .dataRows)
 
-abbrev pub givesFree : Image → Outcome ℕ
-givesFree i = gives i (freeRows i)
+abbrev pub repliesFree : Image → Outcome ℕ
+repliesFree i = replies i (freeRows i)
 
 unfoldable pub free : Image → Outcome ℕ
-free i = givesFree i
+free i = repliesFree i
 
 -- ---- "Begin takes the next W and a snapshot S, the last commit number." "Begin: [..] 3 client above 31, 5 already open, 8 if W 4,294,967,295 has
 -- been issued." Document 02, 12: "refusal 3 begins at 64".
@@ -63,7 +63,7 @@ unfoldable pub begun : ℕ → Image → Outcome Begun
 begun k i =
     let n : ℕ = i .counters .issued + 1 in
     let s : ℕ = i .counters .last in
-    gives (withIssued (withClients i (opened k n s (i .clients))) n) (record { number = n; snapshot = s })
+    replies (withIssued (withClients i (opened k n s (i .clients))) n) (record { number = n; snapshot = s })
 
 unfoldable pub begin : ℕ → Image → Outcome Begun
 begin k i =
@@ -76,7 +76,7 @@ begin k i =
 -- largest commit number not above S; failing that it answers Unwritten." "Read: 2, 3, 4 cell above 1,023, 6 nothing open", and document 02, 1:
 -- "Read now answers at stages 1 to 11 with the same snapshot and the transaction's own writes; stages 12 and 13 still give 7."
 
-abbrev pub reading : Seen → Reading
+abbrev pub reading : Lookup → Reading
 reading (Version at n) = Value at
 reading Nothing = Unwritten
 
@@ -86,20 +86,20 @@ read k x i =
     if leb cells x then refuse noCell i else
     if not (isOpen i k) then refuse notOpen i else
     if ltb 11 (stageOf i k) then refuse wrongStage i else
-    gives i (reading (lookFor (numberOf i k) x (snapshotOf i k) (i .dataRows) (i .commitRows)))
+    replies i (reading (lookFor (numberOf i k) x (snapshotOf i k) (i .dataRows) (i .commitRows)))
 
 -- ---- "Where one client's transaction wrote a cell twice, the second write replaces the value in its row." "In each buffer new rows go in
 -- directly behind the last one in use." "Write: 2, 3, 4, 12 value not 16 bytes, 6, 7; then, if it has no row for that cell yet, 9 cell limit
 -- reached, 10 no free row." It answers the free figure.
 
 unfoldable pub replaced : ℕ → List ℕ → Image → Outcome ℕ
-replaced j v i = givesFree (withRows i (set (i .dataRows) j (withValue v (getD (i .dataRows) j []))) (i .commitRows))
+replaced j v i = repliesFree (withRows i (set (i .dataRows) j (withValue v (getD (i .dataRows) j []))) (i .commitRows))
 
 unfoldable pub added : ℕ → ℕ → List ℕ → Image → Outcome ℕ
 added k x v i =
     if leb (i .limit) (cellsOf (numberOf i k) (i .dataRows)) then refuse cellLimit i else
     if leb (i .rows) (length (i .dataRows)) then refuse noFreeRow i else
-    givesFree (withRows i (i .dataRows ++ (dataRow (numberOf i k) x v ∷ [])) (i .commitRows))
+    repliesFree (withRows i (i .dataRows ++ (dataRow (numberOf i k) x v ∷ [])) (i .commitRows))
 
 abbrev pub stored : Found → ℕ → ℕ → List ℕ → Image → Outcome ℕ
 stored (At j) k x v i = replaced j v i
@@ -125,7 +125,7 @@ abandon k i =
     if leb clients k then refuse noClient i else
     if not (isOpen i k) then refuse notOpen i else
     if leb 12 (stageOf i k) then refuse wrongStage i else
-    givesFree (removed k i)
+    repliesFree (removed k i)
 
 -- ---- "Trim: low is the smallest S of open transactions, or the last commit number if none is open."
 
@@ -134,17 +134,17 @@ unfoldable pub readers : Image → ℕ → List Number
 readers i zero = []
 readers i (suc k) = (if isOpen i k then Some (snapshotOf i k) else None) ∷ readers i k
 
-abbrev pub orElse : Number → ℕ → ℕ
-orElse (Some n) z = n
-orElse None z = z
+abbrev pub orNumber : Number → ℕ → ℕ
+orNumber (Some n) z = n
+orNumber None z = z
 
 unfoldable pub low : Image → ℕ
-low i = orElse (smallest (readers i clients)) (i .counters .last)
+low i = orNumber (smallest (readers i clients)) (i .counters .last)
 
 -- "A committed data row goes if its cell has another with a larger commit number that is at most low. Committed rows with no data row left
 -- go too. It answers how many data rows went."
 unfoldable pub trimmedTo : List Row → Image → Outcome ℕ
-trimmedTo d i = gives (withRows i d (trimmedCommits d (i .commitRows))) (length (i .dataRows) - length d)
+trimmedTo d i = replies (withRows i d (trimmedCommits d (i .commitRows))) (length (i .dataRows) - length d)
 
 unfoldable pub trim : Image → Outcome ℕ
 trim i = trimmedTo (trimmedRows (low i) (i .dataRows) (i .commitRows)) i

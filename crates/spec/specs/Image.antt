@@ -17,7 +17,7 @@ pub record Counters : Type 0 where
   pub taken : ℕ
   pub last : ℕ
 
--- "arrays by client: stage, number, snapshot, request and commit numbers, waiting lists": `blockers` are those waited for at stage 4, `ahead`
+-- "arrays by client: stage, number, snapshot, request and commit numbers, waiting lists": `requestWaits` are those waited for at stage 4, `commitWaits`
 -- those at stage 10
 pub record Clients : Type 0 where
   pub stage : List ℕ
@@ -25,8 +25,8 @@ pub record Clients : Type 0 where
   pub snapshot : List ℕ
   pub request : List ℕ
   pub commit : List ℕ
-  pub blockers : List ℕ
-  pub ahead : List ℕ
+  pub requestWaits : List ℕ
+  pub commitWaits : List ℕ
 
 -- rows of the store, the cell limit, and the data rows and committed rows in use
 pub record Image : Type 0 where
@@ -43,7 +43,7 @@ abbrev pub countersOf : ℕ → ℕ → ℕ → ℕ → Counters
 countersOf w r c l = record { issued = w; requested = r; taken = c; last = l }
 
 abbrev pub clientsOf : List ℕ → List ℕ → List ℕ → List ℕ → List ℕ → List ℕ → List ℕ → Clients
-clientsOf g n s r c b a = record { stage = g; number = n; snapshot = s; request = r; commit = c; blockers = b; ahead = a }
+clientsOf g n s r c b a = record { stage = g; number = n; snapshot = s; request = r; commit = c; requestWaits = b; commitWaits = a }
 
 abbrev pub imageOf : ℕ → ℕ → Counters → Clients → List Row → List Row → Image
 imageOf r l n c d m = record { rows = r; limit = l; counters = n; clients = c; dataRows = d; commitRows = m }
@@ -76,19 +76,19 @@ withLast i l = withCounters i (countersOf (i .counters .issued) (i .counters .re
 -- ---- changes of client k
 
 abbrev pub setStage : ℕ → ℕ → Clients → Clients
-setStage k g c = clientsOf (set (c .stage) k g) (c .number) (c .snapshot) (c .request) (c .commit) (c .blockers) (c .ahead)
+setStage k g c = clientsOf (set (c .stage) k g) (c .number) (c .snapshot) (c .request) (c .commit) (c .requestWaits) (c .commitWaits)
 
 abbrev pub setRequest : ℕ → ℕ → Clients → Clients
-setRequest k r c = clientsOf (c .stage) (c .number) (c .snapshot) (set (c .request) k r) (c .commit) (c .blockers) (c .ahead)
+setRequest k r c = clientsOf (c .stage) (c .number) (c .snapshot) (set (c .request) k r) (c .commit) (c .requestWaits) (c .commitWaits)
 
 abbrev pub setCommit : ℕ → ℕ → Clients → Clients
-setCommit k n c = clientsOf (c .stage) (c .number) (c .snapshot) (c .request) (set (c .commit) k n) (c .blockers) (c .ahead)
+setCommit k n c = clientsOf (c .stage) (c .number) (c .snapshot) (c .request) (set (c .commit) k n) (c .requestWaits) (c .commitWaits)
 
-abbrev pub setBlockers : ℕ → ℕ → Clients → Clients
-setBlockers k w c = clientsOf (c .stage) (c .number) (c .snapshot) (c .request) (c .commit) (set (c .blockers) k w) (c .ahead)
+abbrev pub setRequestWaits : ℕ → ℕ → Clients → Clients
+setRequestWaits k w c = clientsOf (c .stage) (c .number) (c .snapshot) (c .request) (c .commit) (set (c .requestWaits) k w) (c .commitWaits)
 
-abbrev pub setAhead : ℕ → ℕ → Clients → Clients
-setAhead k w c = clientsOf (c .stage) (c .number) (c .snapshot) (c .request) (c .commit) (c .blockers) (set (c .ahead) k w)
+abbrev pub setCommitWaits : ℕ → ℕ → Clients → Clients
+setCommitWaits k w c = clientsOf (c .stage) (c .number) (c .snapshot) (c .request) (c .commit) (c .requestWaits) (set (c .commitWaits) k w)
 
 -- waiting lists that no longer name client k: "cleared as rows go"
 unfoldable pub cleared : ℕ → List ℕ → List ℕ
@@ -96,19 +96,19 @@ cleared k l = map (λ (w : ℕ). remove w k) l
 
 -- no waiting list of the commit queue names client k
 abbrev pub unlisted : ℕ → Clients → Clients
-unlisted k c = clientsOf (c .stage) (c .number) (c .snapshot) (c .request) (c .commit) (c .blockers) (cleared k (c .ahead))
+unlisted k c = clientsOf (c .stage) (c .number) (c .snapshot) (c .request) (c .commit) (c .requestWaits) (cleared k (c .commitWaits))
 
 -- client k at stage 0 with a number and a snapshot, and zero in all else
 abbrev pub opened : ℕ → ℕ → ℕ → Clients → Clients
 opened k n s c =
     clientsOf (set (c .stage) k 0) (set (c .number) k n) (set (c .snapshot) k s) (set (c .request) k 0) (set (c .commit) k 0)
-    (set (c .blockers) k 0) (set (c .ahead) k 0)
+    (set (c .requestWaits) k 0) (set (c .commitWaits) k 0)
 
 -- client k closed: zero in all its fields, and no waiting list names it
 unfoldable pub closed : ℕ → Clients → Clients
 closed k c =
     clientsOf (set (c .stage) k 0) (set (c .number) k 0) (set (c .snapshot) k 0) (set (c .request) k 0) (set (c .commit) k 0)
-    (set (cleared k (c .blockers)) k 0) (set (cleared k (c .ahead)) k 0)
+    (set (cleared k (c .requestWaits)) k 0) (set (cleared k (c .commitWaits)) k 0)
 
 -- ---- what an image says of client k
 

@@ -14,7 +14,7 @@ pub mod Look
 pub mod Numbers
 pub mod Orderly
 pub mod Rows
-pub mod Served
+pub mod Marked
 pub mod Set
 pub mod Share
 pub mod Trim

@@ -13,8 +13,8 @@ use Rattle.spec.specs.declared.Number.{Number}
 use Rattle.spec.specs.declared.Number.the-variants.{Some, None}
 use Rattle.spec.specs.declared.Found.{Found}
 use Rattle.spec.specs.declared.Found.the-variants.{At, Missing}
-use Rattle.spec.specs.declared.Seen.{Seen}
-use Rattle.spec.specs.declared.Seen.the-variants.{Version, Nothing}
+use Rattle.spec.specs.declared.Lookup.{Lookup}
+use Rattle.spec.specs.declared.Lookup.the-variants.{Version, Nothing}
 use Rattle.spec.specs.Numbers.{upTo}
 
 -- the number that a tag is committed under, none if it is not
@@ -36,26 +36,26 @@ unfoldable pub versionOf : ℕ → ℕ → List Row → Row → Number
 versionOf cell s cs r = if eqb (cellOf r) cell then upTo s (commitOf (tagOf r) cs) else None
 
 -- the one with the larger number, and the first of equals
-unfoldable pub newer : Seen → Seen → Seen
+unfoldable pub newer : Lookup → Lookup → Lookup
 newer Nothing b = b
 newer (Version i m) Nothing = Version i m
 newer (Version i m) (Version j n) = if ltb m n then Version j n else Version i m
 
 -- row i under that number, if there is one
-unfoldable pub seenAt : ℕ → Number → Seen
-seenAt i None = Nothing
-seenAt i (Some n) = Version i n
+unfoldable pub versionAt : ℕ → Number → Lookup
+versionAt i None = Nothing
+versionAt i (Some n) = Version i n
 
 -- of rows numbered from i on, the one with the largest number
-unfoldable pub newest : (Row → Number) → ℕ → List Row → Seen
+unfoldable pub newest : (Row → Number) → ℕ → List Row → Lookup
 newest f i [] = Nothing
-newest f i (r ∷ rs) = newer (seenAt i (f r)) (newest f (i + 1) rs)
+newest f i (r ∷ rs) = newer (versionAt i (f r)) (newest f (i + 1) rs)
 
 -- the own row, which stands under no commit number, else the other one
-unfoldable pub ownOr : Found → Seen → Seen
+unfoldable pub ownOr : Found → Lookup → Lookup
 ownOr (At i) other = Version i 0
 ownOr Missing other = other
 
 -- the row that a reader with that tag and snapshot finds
-unfoldable pub lookFor : ℕ → ℕ → ℕ → List Row → List Row → Seen
+unfoldable pub lookFor : ℕ → ℕ → ℕ → List Row → List Row → Lookup
 lookFor tag cell s ds cs = ownOr (find (isOwn tag cell) 0 ds) (newest (versionOf cell s cs) 0 ds)

@@ -16,13 +16,13 @@ under n [] = true
 under n (c ∷ cs) = ltb n (commitNumber c)
 
 -- a committed row of that transaction
-unfoldable pub commits : ℕ → Row → Bool
-commits tag c = eqb (commitTag c) tag
+unfoldable pub isCommitOf : ℕ → Row → Bool
+isCommitOf tag c = eqb (commitTag c) tag
 
 -- commit numbers rise from each row to the next, and no later row has a row's tag again
 unfoldable pub orderlyCommits : List Row → Bool
 orderlyCommits [] = true
-orderlyCommits (c ∷ cs) = if under (commitNumber c) cs then (if any (commits (commitTag c)) cs then false else orderlyCommits cs) else false
+orderlyCommits (c ∷ cs) = if under (commitNumber c) cs then (if any (isCommitOf (commitTag c)) cs then false else orderlyCommits cs) else false
 
 -- cells are below 1,024, and no later row has a row's tag and cell again
 unfoldable pub orderlyRows : List Row → Bool

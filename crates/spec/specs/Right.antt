@@ -15,8 +15,8 @@ use Rattle.spec.specs.declared.Progress.the-variants.{Stage, Waiting, Co
 use Rattle.spec.specs.Answers.{Answer, Answered, Refused, unfit, noCell, notOpen, wrongStage, cellLimit, noFreeRow, wrongLength}
 use Rattle.spec.specs.Calls.{cells}
 use Rattle.spec.specs.Bytes.{fits, limitOf}
-use Rattle.spec.specs.Run.{Call, Begin, Read, Write, Advance, Abandon, Trim, Free, refusals, Listed, Memory, memoryOf, takes}
-use Rattle.spec.specs.Table.{Value, Values, has, Commit, Open, Table, orElse, Told, told, tell}
+use Rattle.spec.specs.Run.{Call, Begin, Read, Write, Advance, Abandon, Trim, Free, refusals, Listed, Memory, memoryOf, step}
+use Rattle.spec.specs.Table.{Value, Values, has, Commit, Open, Table, orElse, Observed, observeAnswer, update}
 
 -- ---- the words of the demands
 
@@ -157,7 +157,7 @@ RightTrim rows t (Refused n) next = Unit {0}
 
 -- of a store with these bounds: the answer a to a call q is right, by the table t and the last number w of a Begin before it; next is what Free
 -- would answer next
-abbrev pub Right : Bounds → ℕ → Table → (q : Call) → Answer (Told q) → Answer ℕ → Type 0
+abbrev pub Right : Bounds → ℕ → Table → (q : Call) → Answer (Observed q) → Answer ℕ → Type 0
 Right b w t (Begin k) a next = RightBegin w t k a
 Right b w t (Read k x) a next = RightRead t k x a
 Right b w t (Write k x v) a next = RightWrite (b .limit) t k x v a next
@@ -167,7 +167,7 @@ Right b w t Trim a next = RightTrim (b .rows) t a next
 Right b w t Free a next = Unit {0}
 
 -- the last number of a Begin, after this call
-abbrev pub numberAfter : (q : Call) → Answer (Told q) → ℕ → ℕ
+abbrev pub numberAfter : (q : Call) → Answer (Observed q) → ℕ → ℕ
 numberAfter (Begin k) (Answered b) w = b .number
 numberAfter (Begin k) (Refused n) w = w
 numberAfter (Read k x) a w = w
@@ -180,28 +180,28 @@ numberAfter Free a w = w
 -- ---- a list of calls on a record and two buffers
 
 -- what a call tells: a read's value is that of the data rows in use when it returns
-abbrev pub tells : (q : Call) → Memory → Answer (Told q)
-tells q m = told q (rowsIn 24 (takes q m .store .used) (takes q m .dataBytes)) (takes q m .answer)
+abbrev pub observed : (q : Call) → Memory → Answer (Observed q)
+observed q m = observeAnswer q (rowsIn 24 (step q m .store .used) (step q m .dataBytes)) (step q m .answer)
 
 -- Every answer of the list is right, by the plain table that was told the calls and answers before it.
 abbrev pub RightRun : Bounds → ℕ → Table → Memory → List Call → Type 0
 RightRun b w t m [] = Unit {0}
 RightRun b w t m (q ∷ qs) =
-    Right b w t q (tells q m) (takes Free (memoryOf (takes q m)) .answer)
-    × RightRun b (numberAfter q (tells q m) w) (tell q (tells q m) t) (memoryOf (takes q m)) qs
+    Right b w t q (observed q m) (step Free (memoryOf (step q m)) .answer)
+    × RightRun b (numberAfter q (observed q m) w) (update q (observed q m) t) (memoryOf (step q m)) qs
 
 -- every call of the list gets 2 and changes nothing
 abbrev pub AllUnfit : Memory → List Call → Type 0
 AllUnfit m [] = Unit {0}
-AllUnfit m (q ∷ qs) = (takes q m .answer ≡ Refused unfit) × ((memoryOf (takes q m) ≡ m) × AllUnfit m qs)
+AllUnfit m (q ∷ qs) = (step q m .answer ≡ Refused unfit) × ((memoryOf (step q m) ≡ m) × AllUnfit m qs)
 
 -- the store is fit after each call of the list
 abbrev pub AllFit : Memory → List Call → Type 0
 AllFit m [] = Unit {0}
 AllFit m (q ∷ qs) =
-    (fits (takes q m .store) (length (takes q m .dataBytes)) (length (takes q m .commitBytes)) ≡ true) × AllFit (memoryOf (takes q m)) qs
+    (fits (step q m .store) (length (step q m .dataBytes)) (length (step q m .commitBytes)) ≡ true) × AllFit (memoryOf (step q m)) qs
 
 -- every refused call of the list gets a number that document 01 has for it
 abbrev pub AllListed : Memory → List Call → Type 0
 AllListed m [] = Unit {0}
-AllListed m (q ∷ qs) = Listed (refusals q) (takes q m .answer) × AllListed (memoryOf (takes q m)) qs
+AllListed m (q ∷ qs) = Listed (refusals q) (step q m .answer) × AllListed (memoryOf (step q m)) qs

@@ -77,8 +77,8 @@ rowsFrom w n i s = rowsIn w (n - i) (drop (w * i) s)
 -- A buffer in which n rows of width w were in use, and now the rows rs are: these rows, zero in the rows that were freed, and the bytes
 -- behind as they were. "In each buffer new rows go in directly behind the last one in use. After any removal the others close up in their
 -- order and freed bytes become zero."
-unfoldable pub laid : ℕ → ℕ → List Row → List ℕ → List ℕ
-laid w n rs s = flatten rs ++ replicate (w * (n - length rs)) 0 ++ drop (w * (length rs + (n - length rs))) s
+unfoldable pub layout : ℕ → ℕ → List Row → List ℕ → List ℕ
+layout w n rs s = flatten rs ++ replicate (w * (n - length rs)) 0 ++ drop (w * (length rs + (n - length rs))) s
 
 -- ---- rows by a test
 

@@ -10,7 +10,7 @@ use Rattle.spec.specs.Answers.{Answer, Answered, Refused}
 use Rattle.spec.specs.Image.{Image}
 use Rattle.spec.specs.Calls.{Outcome, free, begin, read, write, abandon, trim}
 use Rattle.spec.specs.Steps.{advance}
-use Rattle.spec.specs.Bytes.{After, after}
+use Rattle.spec.specs.Bytes.{After, onBytes}
 
 -- a call with its arguments: client, cell, value
 pub data Call : Type 0 where
@@ -23,14 +23,14 @@ pub data Call : Type 0 where
   Free : Call
 
 -- what a call gives where it is not refused
-abbrev pub Gives : Call → Type 0
-Gives (Begin k) = Begun
-Gives (Read k x) = Reading
-Gives (Write k x v) = ℕ
-Gives (Advance k) = Progress
-Gives (Abandon k) = ℕ
-Gives Trim = ℕ
-Gives Free = ℕ
+abbrev pub Result : Call → Type 0
+Result (Begin k) = Begun
+Result (Read k x) = Reading
+Result (Write k x v) = ℕ
+Result (Advance k) = Progress
+Result (Abandon k) = ℕ
+Result Trim = ℕ
+Result Free = ℕ
 
 -- "Refusal by operation": the numbers with which it may be refused, in their order. 11 stands nowhere: it "never occurs any more" (document 02, 2)
 abbrev pub refusals : Call → List ℕ
@@ -48,7 +48,7 @@ Listed l (Answered a) = Unit {0}
 Listed l (Refused n) = List·Memᴰ n l
 
 -- what it makes of an image
-unfoldable pub perform : (q : Call) → Image → Outcome (Gives q)
+unfoldable pub perform : (q : Call) → Image → Outcome (Result q)
 perform (Begin k) i = begin k i
 perform (Read k x) i = read k x i
 perform (Write k x v) i = write k x v i
@@ -67,5 +67,5 @@ abbrev pub memoryOf : {A : Type 0} → After A → Memory
 memoryOf a = record { store = a .store; dataBytes = a .dataBytes; commitBytes = a .commitBytes }
 
 -- what a call leaves of them and answers: what the promise of the call's code says
-abbrev pub takes : (q : Call) → Memory → After (Gives q)
-takes q m = after (perform q) (m .store) (m .dataBytes) (m .commitBytes)
+abbrev pub step : (q : Call) → Memory → After (Result q)
+step q m = onBytes (perform q) (m .store) (m .dataBytes) (m .commitBytes)

@@ -15,7 +15,7 @@ use Rattle.spec.specs.Answers.{Answer, Answered, Refused, badSetUp, noFo
 use Rattle.spec.specs.Image.{Image, empty}
 use Rattle.spec.specs.Calls.{Outcome, free, begin, read, write, abandon, trim}
 use Rattle.spec.specs.Steps.{advance}
-use Rattle.spec.specs.Bytes.{storeOf, After, after, setUp}
+use Rattle.spec.specs.Bytes.{storeOf, After, onBytes, setUp}
 use Rattle.spec.specs.Text.{formOf, valueIn, freeText, droppedText, begunText, readingText, progressText, refusedText, answerText, lineText}
 
 -- the record, and the program's two buffers, of 24 × 1,024 and 8 × 1,024 bytes: the store's are the first 24 × rows and 8 × rows bytes of them
@@ -44,7 +44,7 @@ abbrev pub behind : {A : Type 0} → ℕ → World → After A → World
 behind r w a = worldOf (a .store) (a .dataBytes ++ drop (24 * r) (w .dataBytes)) (a .commitBytes ++ drop (8 * r) (w .commitBytes))
 
 abbrev pub called : {A : Type 0} → (Image → Outcome A) → World → After A
-called f w = after f (w .store) (take (24 * w .store .rows) (w .dataBytes)) (take (8 * w .store .rows) (w .commitBytes))
+called f w = onBytes f (w .store) (take (24 * w .store .rows) (w .dataBytes)) (take (8 * w .store .rows) (w .commitBytes))
 
 -- the answer to a call of form f, with the text of what it gives
 abbrev pub said : {A : Type 0} → Form → (A → List ℕ) → World → After A → Response

@@ -16,17 +16,17 @@ use Rattle.spec.specs.declared.Queue.{Queue}
 use Rattle.spec.specs.declared.Progress.{Progress}
 use Rattle.spec.specs.declared.Progress.the-variants.{Stage, Waiting, Conflict, Done}
 use Rattle.spec.specs.Answers.{unfit, noClient, notOpen}
-use Rattle.spec.specs.Image.{Image, withClients, withRows, withRequested, withTaken, withLast, setStage, setRequest, setCommit, setBlockers, setAhead, unlisted, closed, stageOf, numberOf, snapshotOf, requestOf, commitNumberOf, isOpen}
-use Rattle.spec.specs.Calls.{Outcome, gives, refuse, top, removed}
+use Rattle.spec.specs.Image.{Image, withClients, withRows, withRequested, withTaken, withLast, setStage, setRequest, setCommit, setRequestWaits, setCommitWaits, unlisted, closed, stageOf, numberOf, snapshotOf, requestOf, commitNumberOf, isOpen}
+use Rattle.spec.specs.Calls.{Outcome, replies, refuse, top, removed}
 
 -- ---- the two queues: who is in one, and whose number is noted, is read off the stage
 
 -- the request queue: entered at 0, the number noted at 2, left at 13; the commit queue: entered at 6, the number noted at 8, left at 12
-abbrev pub requests : Queue
-requests = record { first = 1; noted = 3; last = 13 }
+abbrev pub requestQueue : Queue
+requestQueue = record { first = 1; noted = 3; last = 13 }
 
-abbrev pub commits : Queue
-commits = record { first = 7; noted = 9; last = 12 }
+abbrev pub commitQueue : Queue
+commitQueue = record { first = 7; noted = 9; last = 12 }
 
 -- a client at stage g is in the queue
 unfoldable pub queued : Queue → ℕ → Bool
@@ -48,11 +48,11 @@ others q k i = collect (λ j. not (eqb j k) && queued q (stageOf i j)) clients
 
 -- client k goes on to stage g
 unfoldable pub goOn : ℕ → ℕ → Image → Outcome Progress
-goOn g k i = gives (withClients i (setStage k g (i .clients))) (Stage g)
+goOn g k i = replies (withClients i (setStage k g (i .clients))) (Stage g)
 
 -- client k is closed, with Done and number n
 unfoldable pub finished : ℕ → ℕ → Image → Outcome Progress
-finished n k i = gives (withClients i (closed k (i .clients))) (Done n)
+finished n k i = replies (withClients i (closed k (i .clients))) (Done n)
 
 -- 0: "enter the request queue"; document 02, 2: "Advance at stage 0 with nothing written now answers Done with the snapshot number and closes the
 -- transaction. Nothing enters a queue, and no number is taken."
@@ -71,26 +71,26 @@ takeRequest k i =
 -- 3: "list the other queue rows that share a cell, once"
 unfoldable pub listRequests : ℕ → Image → Outcome Progress
 listRequests k i =
-    let w : ℕ = collect (λ j. member (others requests k i) j && shares (i .dataRows) (numberOf i k) (numberOf i j)) clients in
-    goOn 4 k (withClients i (setBlockers k w (i .clients)))
+    let w : ℕ = collect (λ j. member (others requestQueue k i) j && shares (i .dataRows) (numberOf i k) (numberOf i j)) clients in
+    goOn 4 k (withClients i (setRequestWaits k w (i .clients)))
 
 -- 4: "look: strike rows that are gone and rows with a larger noted number", "5 if none is left"; else "Waiting with the number of transactions
 -- still on its list"
 unfoldable pub looked : ℕ → ℕ → ℕ → Image → Outcome Progress
 looked g k w i =
     if eqb w 0 then goOn g k i else
-    gives i (Waiting (size clients w))
+    replies i (Waiting (size clients w))
 
 unfoldable pub lookRequests : ℕ → Image → Outcome Progress
 lookRequests k i =
-    let w : ℕ = strike (λ j. struck requests (requestOf i k) (stageOf i j) (requestOf i j)) (getD (i .clients .blockers) k 0) clients in
-    looked 5 k w (withClients i (setBlockers k w (i .clients)))
+    let w : ℕ = strike (λ j. struck requestQueue (requestOf i k) (stageOf i j) (requestOf i j)) (getD (i .clients .requestWaits) k 0) clients in
+    looked 5 k w (withClients i (setRequestWaits k w (i .clients)))
 
 -- 5: "check commits above S for a shared cell"; "A check that finds a shared cell answers Conflict with the smallest such commit number,
 -- removes the transaction's data rows and its queue row, and closes it."
 abbrev pub checked : Number → ℕ → Image → Outcome Progress
 checked None k i = goOn 6 k i
-checked (Some n) k i = gives (removed k i) (Conflict n)
+checked (Some n) k i = replies (removed k i) (Conflict n)
 
 unfoldable pub check : ℕ → Image → Outcome Progress
 check k i = checked (conflict (numberOf i k) (snapshotOf i k) (i .dataRows) (i .commitRows)) k i
@@ -104,13 +104,13 @@ takeCommit k i =
 
 -- 9: "list all other commit queue rows, once"
 unfoldable pub listCommits : ℕ → Image → Outcome Progress
-listCommits k i = goOn 10 k (withClients i (setAhead k (others commits k i) (i .clients)))
+listCommits k i = goOn 10 k (withClients i (setCommitWaits k (others commitQueue k i) (i .clients)))
 
 -- 10: "look, as at 4, by commit number"
 unfoldable pub lookCommits : ℕ → Image → Outcome Progress
 lookCommits k i =
-    let w : ℕ = strike (λ j. struck commits (commitNumberOf i k) (stageOf i j) (commitNumberOf i j)) (getD (i .clients .ahead) k 0) clients in
-    looked 11 k w (withClients i (setAhead k w (i .clients)))
+    let w : ℕ = strike (λ j. struck commitQueue (commitNumberOf i k) (stageOf i j) (commitNumberOf i j)) (getD (i .clients .commitWaits) k 0) clients in
+    looked 11 k w (withClients i (setCommitWaits k w (i .clients)))
 
 -- 11: "add the committed row; it becomes the last commit"; 2 if "the committed buffer is full at stage 11"
 unfoldable pub addCommit : ℕ → Image → Outcome Progress

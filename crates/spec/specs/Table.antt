@@ -15,7 +15,7 @@ use Rattle.spec.specs.declared.Reading.the-variants as reading
 use Rattle.spec.specs.declared.Progress.{Progress}
 use Rattle.spec.specs.declared.Progress.the-variants.{Stage, Waiting, Conflict, Done}
 use Rattle.spec.specs.Answers.{Answer, Answered, Refused}
-use Rattle.spec.specs.Run.{Call, Begin, Read, Write, Advance, Abandon, Trim, Free, Gives}
+use Rattle.spec.specs.Run.{Call, Begin, Read, Write, Advance, Abandon, Trim, Free, Result}
 
 -- the sixteen bytes of a value
 abbrev pub Value : Type 0
@@ -61,8 +61,8 @@ blank = record { values = unwritten; count = 0; book = []; clients = λ k. none 
 -- ---- changes
 
 -- what stands at k replaced
-unfoldable pub put : {A : Type 0} → ℕ → A → (ℕ → A) → ℕ → A
-put k a f j = if eqb j k then a else f j
+unfoldable pub override : {A : Type 0} → ℕ → A → (ℕ → A) → ℕ → A
+override k a f j = if eqb j k then a else f j
 
 -- the one value, else the other
 abbrev pub orElse : Option Value → Option Value → Option Value
@@ -70,11 +70,11 @@ orElse none o = o
 orElse (some v) o = some v
 
 -- writes laid over values
-abbrev pub over : Values → Values → Values
-over w t x = orElse (w x) (t x)
+abbrev pub overlay : Values → Values → Values
+overlay w t x = orElse (w x) (t x)
 
 abbrev pub withClient : ℕ → Option Open → Table → Table
-withClient k o t = record { values = t .values; count = t .count; book = t .book; clients = put k o (t .clients) }
+withClient k o t = record { values = t .values; count = t .count; book = t .book; clients = override k o (t .clients) }
 
 -- the same client with other writes; at another stage, with a commit number
 abbrev pub withWrites : Values → Open → Open
@@ -86,90 +86,90 @@ atStage g n o = record { copy = o .copy; since = o .since; writes = o .writes; s
 -- ---- what an answered call does to the table
 
 -- "Begin: the client is open, at stage 0, with no writes."
-abbrev pub opens : Table → Open
-opens t = record { copy = t .values; since = length (t .book); writes = unwritten; stage = 0; commit = 0 }
+abbrev pub newlyOpen : Table → Open
+newlyOpen t = record { copy = t .values; since = length (t .book); writes = unwritten; stage = 0; commit = 0 }
 
 -- "Write: the value replaces the client's earlier one for that cell."
-abbrev pub writes : ℕ → ℕ → Value → Table → Option Open → Table
-writes k x v t none = t
-writes k x v t (some o) = withClient k (some (withWrites (put x (some v) (o .writes)) o)) t
+abbrev pub onWrite : ℕ → ℕ → Value → Table → Option Open → Table
+onWrite k x v t none = t
+onWrite k x v t (some o) = withClient k (some (withWrites (override x (some v) (o .writes)) o)) t
 
 -- "With Stage 8 the count rises by 1 and is its commit number."
-abbrev pub takesNumber : ℕ → Table → Open → Table
-takesNumber k t o = record {
+abbrev pub onNumber : ℕ → Table → Open → Table
+onNumber k t o = record {
   values = t .values;
   count = t .count + 1;
   book = t .book;
-  clients = put k (some (atStage 8 (t .count + 1) o)) (t .clients);
+  clients = override k (some (atStage 8 (t .count + 1) o)) (t .clients);
 }
 
 -- "With Stage 12 its commit is made: all its writes go into the table, its number and cells to the end of the book."
-abbrev pub commits : ℕ → Table → Open → Table
-commits k t o = record {
-  values = over (o .writes) (t .values);
+abbrev pub onCommit : ℕ → Table → Open → Table
+onCommit k t o = record {
+  values = overlay (o .writes) (t .values);
   count = t .count;
   book = t .book ++ (record { number = o .commit; wrote = λ x. has (o .writes x) } ∷ []);
-  clients = put k (some (atStage 12 (o .commit) o)) (t .clients);
+  clients = override k (some (atStage 12 (o .commit) o)) (t .clients);
 }
 
 -- "Advance answering Stage: that becomes its stage."
-unfoldable pub reaches : ℕ → ℕ → Table → Option Open → Table
-reaches k g t none = t
-reaches k g t (some o) =
-    if eqb g 8 then takesNumber k t o else
-    if eqb g 12 then commits k t o else
+unfoldable pub onStage : ℕ → ℕ → Table → Option Open → Table
+onStage k g t none = t
+onStage k g t (some o) =
+    if eqb g 8 then onNumber k t o else
+    if eqb g 12 then onCommit k t o else
     withClient k (some (atStage g (o .commit) o)) t
 
 -- "Advance answering Conflict or Done, and Abandon: the client is closed, its writes forgotten."
-abbrev pub closes : ℕ → Table → Table
-closes k t = withClient k none t
+abbrev pub onClose : ℕ → Table → Table
+onClose k t = withClient k none t
 
-abbrev pub advances : ℕ → Table → Progress → Table
-advances k t (Stage g) = reaches k g t (t .clients k)
-advances k t (Waiting n) = t
-advances k t (Conflict n) = closes k t
-advances k t (Done n) = closes k t
+abbrev pub onProgress : ℕ → Table → Progress → Table
+onProgress k t (Stage g) = onStage k g t (t .clients k)
+onProgress k t (Waiting n) = t
+onProgress k t (Conflict n) = onClose k t
+onProgress k t (Done n) = onClose k t
 
 -- ---- calls and answers as the table is told them
 
 -- what a call gives, with the value itself for a read
-abbrev pub Told : Call → Type 0
-Told (Begin k) = Begun
-Told (Read k x) = Option Value
-Told (Write k x v) = ℕ
-Told (Advance k) = Progress
-Told (Abandon k) = ℕ
-Told Trim = ℕ
-Told Free = ℕ
+abbrev pub Observed : Call → Type 0
+Observed (Begin k) = Begun
+Observed (Read k x) = Option Value
+Observed (Write k x v) = ℕ
+Observed (Advance k) = Progress
+Observed (Abandon k) = ℕ
+Observed Trim = ℕ
+Observed Free = ℕ
 
 -- "hands back the sixteen bytes as they stand in the data buffer": ds are the data rows in use when the call returns
 abbrev pub bytesRead : List Row → Reading → Option Value
 bytesRead ds (reading.Value at) = some (valueOf (getD ds at []))
 bytesRead ds reading.Unwritten = none
 
-abbrev pub given : (q : Call) → List Row → Gives q → Told q
-given (Begin k) ds a = a
-given (Read k x) ds a = bytesRead ds a
-given (Write k x v) ds a = a
-given (Advance k) ds a = a
-given (Abandon k) ds a = a
-given Trim ds a = a
-given Free ds a = a
+abbrev pub observe : (q : Call) → List Row → Result q → Observed q
+observe (Begin k) ds a = a
+observe (Read k x) ds a = bytesRead ds a
+observe (Write k x v) ds a = a
+observe (Advance k) ds a = a
+observe (Abandon k) ds a = a
+observe Trim ds a = a
+observe Free ds a = a
 
-abbrev pub told : (q : Call) → List Row → Answer (Gives q) → Answer (Told q)
-told q ds (Answered a) = Answered (given q ds a)
-told q ds (Refused n) = Refused n
+abbrev pub observeAnswer : (q : Call) → List Row → Answer (Result q) → Answer (Observed q)
+observeAnswer q ds (Answered a) = Answered (observe q ds a)
+observeAnswer q ds (Refused n) = Refused n
 
 -- "A refused call changes nothing." "Waiting, Read, Trim, Free: nothing changes."
-abbrev pub deed : (q : Call) → Told q → Table → Table
-deed (Begin k) a t = withClient k (some (opens t)) t
-deed (Read k x) a t = t
-deed (Write k x v) a t = writes k x v t (t .clients k)
-deed (Advance k) a t = advances k t a
-deed (Abandon k) a t = closes k t
-deed Trim a t = t
-deed Free a t = t
+abbrev pub effect : (q : Call) → Observed q → Table → Table
+effect (Begin k) a t = withClient k (some (newlyOpen t)) t
+effect (Read k x) a t = t
+effect (Write k x v) a t = onWrite k x v t (t .clients k)
+effect (Advance k) a t = onProgress k t a
+effect (Abandon k) a t = onClose k t
+effect Trim a t = t
+effect Free a t = t
 
-unfoldable pub tell : (q : Call) → Answer (Told q) → Table → Table
-tell q (Answered a) t = deed q a t
-tell q (Refused n) t = t
+unfoldable pub update : (q : Call) → Answer (Observed q) → Table → Table
+update q (Answered a) t = effect q a t
+update q (Refused n) t = t

@@ -13,10 +13,10 @@ use Rattle.spec.specs.declared.Form.{Form}
 use Rattle.spec.specs.declared.Form.the-variants.{SetUp, Begin, Read, Write, Advance, Abandon, Trim, Free, Other}
 use Rattle.spec.specs.declared.Decimal.{Decimal}
 use Rattle.spec.specs.declared.Decimal.the-variants.{Is, No}
-use Rattle.spec.specs.declared.One.{One}
-use Rattle.spec.specs.declared.One.the-variants.{Only, NotOne}
-use Rattle.spec.specs.declared.Two.{Two}
-use Rattle.spec.specs.declared.Two.the-variants.{Both, NotTwo}
+use Rattle.spec.specs.declared.OneNumber.{OneNumber}
+use Rattle.spec.specs.declared.OneNumber.the-variants.{Only, NotOne}
+use Rattle.spec.specs.declared.TwoNumbers.{TwoNumbers}
+use Rattle.spec.specs.declared.TwoNumbers.the-variants.{Both, NotTwo}
 use Rattle.spec.specs.declared.Begun.{Begun}
 use Rattle.spec.specs.declared.Reading.{Reading}
 use Rattle.spec.specs.declared.Reading.the-variants.{Value, Unwritten}
@@ -119,15 +119,15 @@ abbrev pub stands : ℕ → List ℕ → ℕ → Bool
 stands b s at = if ltb at (length s) then eqb (getD s at 0) b else false
 
 -- the last byte of s stands at a place, and is a closing bracket
-abbrev pub closes : List ℕ → ℕ → Bool
-closes s at = if eqb (length s) (at + 1) then eqb (getD s at 0) 41 else false
+abbrev pub bracketAt : List ℕ → ℕ → Bool
+bracketAt s at = if eqb (length s) (at + 1) then eqb (getD s at 0) 41 else false
 
 -- a number and the closing bracket
-abbrev pub oneAfter : List ℕ → Decimal → One
+abbrev pub oneAfter : List ℕ → Decimal → OneNumber
 oneAfter s No = NotOne
-oneAfter s (Is v n) = if closes s n then Only v else NotOne
+oneAfter s (Is v n) = if bracketAt s n then Only v else NotOne
 
-unfoldable pub oneAt : List ℕ → ℕ → One
+unfoldable pub oneAt : List ℕ → ℕ → OneNumber
 oneAt s at = oneAfter s (decimalAt s at)
 
 -- a number and a space
@@ -139,19 +139,19 @@ unfoldable pub spacedAt : List ℕ → ℕ → Decimal
 spacedAt s at = spaced s (decimalAt s at)
 
 -- a number, a space, a number and the closing bracket
-abbrev pub withFirst : ℕ → One → Two
+abbrev pub withFirst : ℕ → OneNumber → TwoNumbers
 withFirst a NotOne = NotTwo
 withFirst a (Only b) = Both a b
 
-abbrev pub twoAfter : List ℕ → Decimal → Two
+abbrev pub twoAfter : List ℕ → Decimal → TwoNumbers
 twoAfter s No = NotTwo
 twoAfter s (Is a n) = withFirst a (oneAt s n)
 
-unfoldable pub twoAt : List ℕ → ℕ → Two
+unfoldable pub twoAt : List ℕ → ℕ → TwoNumbers
 twoAt s at = twoAfter s (spacedAt s at)
 
 -- "Forms: set-up (rows, first W, limit), begin, read, write, advance, abandon, trim, free; the client stands first, then the cell, then the value."
-abbrev pub setUpWith : ℕ → Two → Form
+abbrev pub setUpWith : ℕ → TwoNumbers → Form
 setUpWith r NotTwo = Other
 setUpWith r (Both w l) = SetUp r w l
 
@@ -162,18 +162,18 @@ setUpAfter s (Is r n) = setUpWith r (twoAt s n)
 unfoldable pub setUpOf : List ℕ → Form
 setUpOf s = setUpAfter s (spacedAt s 8)
 
-abbrev pub clientForm : (ℕ → Form) → One → Form
+abbrev pub clientForm : (ℕ → Form) → OneNumber → Form
 clientForm f NotOne = Other
 clientForm f (Only k) = f k
 
-abbrev pub readWith : Two → Form
+abbrev pub readWith : TwoNumbers → Form
 readWith NotTwo = Other
 readWith (Both k x) = Read k x
 
 abbrev pub writeValue : List ℕ → ℕ → Decimal → Form
 writeValue s k No = Other
 writeValue s k (Is x n) =
-    if closes s (n + 32) then (if hexAt s n then Write k x n else Other) else
+    if bracketAt s (n + 32) then (if hexAt s n then Write k x n else Other) else
     Other
 
 abbrev pub writeAfter : List ℕ → Decimal → Form

@@ -31,8 +31,8 @@ pub struct Store {
     pub snapshot: [u32; CLIENTS],
     pub request: [u32; CLIENTS],
     pub commit: [u32; CLIENTS],
-    pub blockers: [Set; CLIENTS],
-    pub ahead: [Set; CLIENTS],
+    pub requestWaits: [Set; CLIENTS],
+    pub commitWaits: [Set; CLIENTS],
 }
 
 // Why a call is refused; document 01's number of each is in specs/Answers.antt. 11 is unused.
@@ -135,7 +135,7 @@ pub enum Found {
 }
 
 // A data row and the number it is committed under (0 for an own write), if there is one.
-pub enum Seen {
+pub enum Lookup {
     Version { at: usize, number: u32 },
     Nothing,
 }
@@ -170,12 +170,12 @@ pub enum Decimal {
 }
 
 // One number, and two, up to the end of a form.
-pub enum One {
+pub enum OneNumber {
     Only(u32),
     NotOne,
 }
 
-pub enum Two {
+pub enum TwoNumbers {
     Both(u32, u32),
     NotTwo,
 }

@@ -6,7 +6,7 @@ use mathlib.Core.Bool.{not}
 use mathlib.Core.List.{List, [], _∷_, _++_}
 use borrow.Author.Tests.{le-leb, lt-leb}
 use lib.ListN.{length, getD, length-append}
-use Rattle.spec.specs.Rows.{Row, rowsIn, laid, commitRow, filter, hasTag}
+use Rattle.spec.specs.Rows.{Row, rowsIn, layout, commitRow, filter, hasTag}
 use Rattle.spec.proofs.Rows.{length-rows}
 use Rattle.spec.proofs.Laid.{laid-same}
 use Rattle.spec.specs.declared.Number.{Number}
@@ -17,22 +17,22 @@ use Rattle.spec.specs.Answers.{Answer, Answered, unfit}
 use Rattle.spec.specs.Image.{countersOf, setStage, closed}
 use Rattle.spec.specs.Calls.{refuse, removed}
 use Rattle.spec.specs.Steps.{goOn, addCommit, checked, check}
-use Rattle.spec.specs.Bytes.{countersIn, clientsIn, recordOf, seen, storeOf, leaves, laidOut}
+use Rattle.spec.specs.Bytes.{countersIn, clientsIn, recordOf, decode, storeOf, afterOf, encode}
 use Rattle.spec.proofs.Ends.{ends}
 use Rattle.steps.specs.Inner.{Removed}
 
 module _ (s : Store) (d c : List ℕ) (k : ℕ) where
   -- the committed buffer is full
-  pub commit-full : s .rows ≤ s .entries → addCommit k (seen s d c) ≡ refuse unfit (seen s d c)
-  unfolding addCommit seen
+  pub commit-full : s .rows ≤ s .entries → addCommit k (decode s d c) ≡ refuse unfit (decode s d c)
+  unfolding addCommit decode
   commit-full h = rw (length-rows 8 (s .entries) c, le-leb (s .rows) (s .entries) h)
 
   -- a committed row stands behind the last one in use, and is the last commit
   pub commit-added : (c′ : List ℕ) → s .entries < s .rows
-      → c′ ≡ laid 8 (s .entries) (rowsIn 8 (s .entries) c ++ (commitRow (getD (s .commit) k 0) (getD (s .number) k 0) ∷ [])) c
-      → leaves (recordOf (s .rows) (s .limit) (countersOf (s .issued) (s .requested) (s .taken) (getD (s .commit) k 0)) (setStage k 12 (clientsIn s)) (s .used) (s .entries + 1)) d c′ (Answered (Stage 12))
-      ≡ laidOut s d c (addCommit k (seen s d c))
-  unfolding addCommit goOn seen storeOf
+      → c′ ≡ layout 8 (s .entries) (rowsIn 8 (s .entries) c ++ (commitRow (getD (s .commit) k 0) (getD (s .number) k 0) ∷ [])) c
+      → afterOf (recordOf (s .rows) (s .limit) (countersOf (s .issued) (s .requested) (s .taken) (getD (s .commit) k 0)) (setStage k 12 (clientsIn s)) (s .used) (s .entries + 1)) d c′ (Answered (Stage 12))
+      ≡ encode s d c (addCommit k (decode s d c))
+  unfolding addCommit goOn decode storeOf
   commit-added c′ g e =
       let r : Row = commitRow (getD (s .commit) k 0) (getD (s .number) k 0) in
       let n : length (rowsIn 8 (s .entries) c ++ (r ∷ [])) ≡ s .entries + 1 = length-append (rowsIn 8 (s .entries) c) (r ∷ []) ∙ rw (length-rows 8 (s .entries) c) in
@@ -41,18 +41,18 @@ module _ (s : Store) (d c : List ℕ) (k : ℕ) where
 
   -- the check, by the number that was found
   pub check-found : (f : Number) → f ≡ conflict (getD (s .number) k 0) (getD (s .snapshot) k 0) (rowsIn 24 (s .used) d) (rowsIn 8 (s .entries) c)
-      → checked f k (seen s d c) ≡ check k (seen s d c)
-  unfolding check seen
+      → checked f k (decode s d c) ≡ check k (decode s d c)
+  unfolding check decode
   check-found f e = rw e
 
   -- the record of the image without the client's rows, by how many rows are left
   pub removed-store : (n : ℕ) → n ≡ length (filter (λ r. not (hasTag (getD (s .number) k 0) r)) (rowsIn 24 (s .used) d))
-      → recordOf (s .rows) (s .limit) (countersIn s) (closed k (clientsIn s)) n (s .entries) ≡ storeOf (removed k (seen s d c))
-  unfolding removed seen storeOf
+      → recordOf (s .rows) (s .limit) (countersIn s) (closed k (clientsIn s)) n (s .entries) ≡ storeOf (removed k (decode s d c))
+  unfolding removed decode storeOf
   removed-store n e = rw (e, length-rows 8 (s .entries) c)
 
   -- the client's rows are removed and it is closed, whatever is answered
   pub removed-ends : {A : Type 0} (a : Answer A) (s′ : Store) (d′ : List ℕ) → Removed k s d s′ d′
-      → leaves s′ d′ c a ≡ laidOut s d c (record { image = removed k (seen s d c); answer = a })
-  unfolding removed seen
+      → afterOf s′ d′ c a ≡ encode s d c (record { image = removed k (decode s d c); answer = a })
+  unfolding removed decode
   removed-ends a s′ d′ r = ends s d c _ _ _ _ _ (r .store c) (r .bytes c) (sym (laid-same 8 (s .entries) c)) refl

@@ -6,9 +6,9 @@ ghost use Prim.Native.Nat.{ℕ, _*_, _≤_, _<_};
 ghost use lib.ListN.{length};
 ghost use Rattle.spec.specs.Set.{clients};
 ghost use Rattle.spec.specs.Answers.{advanceOf};
-ghost use Rattle.spec.specs.Steps.{requests as requestQueue, commits as commitQueue, goOn, finished, advance, enter, takeRequest, listRequests, looked, lookRequests, check, takeCommit, listCommits, lookCommits, addCommit, leaveCommits, leaveRequests};
-ghost use Rattle.spec.specs.Bytes.{leaves, fits, after};
-ghost use Rattle.steps.specs.Inner.{Removed, Takes, TakesUnseen, TakesDue};
+ghost use Rattle.spec.specs.Steps.{requestQueue, commitQueue, goOn, finished, advance, enter, takeRequest, listRequests, looked, lookRequests, check, takeCommit, listCommits, lookCommits, addCommit, leaveCommits, leaveRequests};
+ghost use Rattle.spec.specs.Bytes.{afterOf, fits, onBytes};
+ghost use Rattle.steps.specs.Inner.{Removed, Transforms, TransformsUnseen, TransformsDue};
 use spec::AdvanceAnswer;
 use spec::AdvanceTurn;
 use spec::LIMIT;
@@ -53,7 +53,7 @@ fn refuse(store: Store, refusal: Refusal) -> AdvanceTurn
 // The client goes on to a stage.
 fn go_on(store: Store, client: u32, stage: u32) -> AdvanceTurn
     requires { ⌜ client < clients ⌝ }
-    ensures { λ r. ⌜ TakesUnseen (goOn stage client) store r ⌝ }
+    ensures { λ r. ⌜ TransformsUnseen (goOn stage client) store r ⌝ }
 {
     let k = client as usize;
     let mut next = store;
@@ -69,7 +69,7 @@ fn go_on(store: Store, client: u32, stage: u32) -> AdvanceTurn
 // The client is closed, with Done and a number.
 fn finish(store: Store, client: u32, number: u32) -> AdvanceTurn
     requires { ⌜ client < clients ⌝ }
-    ensures { λ r. ⌜ TakesUnseen (finished number client) store r ⌝ }
+    ensures { λ r. ⌜ TransformsUnseen (finished number client) store r ⌝ }
 {
     let closed = record::close(store, client);
     AdvanceTurn {
@@ -82,7 +82,7 @@ fn finish(store: Store, client: u32, number: u32) -> AdvanceTurn
 fn enter(store: Store, rows: &[u8], client: u32) -> AdvanceTurn
     requires { ⌜ client < clients ⌝ }
     requires { ⌜ 24 * store .used ≤ length (now rows) ⌝ }
-    ensures { λ r. ⌜ ((c : List ℕ) → Takes (enter client) store (now (rows .entry)) c r (now (rows .entry)) c) ⌝ }
+    ensures { λ r. ⌜ ((c : List ℕ) → Transforms (enter client) store (now (rows .entry)) c r (now (rows .entry)) c) ⌝ }
 {
     let k = client as usize;
     let numbers = store.number;
@@ -99,7 +99,7 @@ fn enter(store: Store, rows: &[u8], client: u32) -> AdvanceTurn
 // 1: take a request number.
 fn take_request(store: Store, client: u32) -> AdvanceTurn
     requires { ⌜ client < clients ⌝ }
-    ensures { λ r. ⌜ TakesUnseen (takeRequest client) store r ⌝ }
+    ensures { λ r. ⌜ TransformsUnseen (takeRequest client) store r ⌝ }
 {
     if store.requested == 4294967295 {
         return refuse(store, Refusal::Unfit);
@@ -118,7 +118,7 @@ fn take_request(store: Store, client: u32) -> AdvanceTurn
 fn list_requests(store: Store, rows: &[u8], client: u32) -> AdvanceTurn
     requires { ⌜ client < clients ⌝ }
     requires { ⌜ 24 * store .used ≤ length (now rows) ⌝ }
-    ensures { λ r. ⌜ ((c : List ℕ) → Takes (listRequests client) store (now (rows .entry)) c r (now (rows .entry)) c) ⌝ }
+    ensures { λ r. ⌜ ((c : List ℕ) → Transforms (listRequests client) store (now (rows .entry)) c r (now (rows .entry)) c) ⌝ }
 {
     let queue = request_queue();
     let k = client as usize;
@@ -128,16 +128,16 @@ fn list_requests(store: Store, rows: &[u8], client: u32) -> AdvanceTurn
     let stages = store.stage;
     let queued = record::others(queue, &stages, client);
     let mut next = store;
-    let mut blockers = store.blockers;
-    blockers[k] = search::sharers(rows, used, number, &numbers, queued);
-    next.blockers = blockers;
+    let mut request_waits = store.requestWaits;
+    request_waits[k] = search::sharers(rows, used, number, &numbers, queued);
+    next.requestWaits = request_waits;
     go_on(next, client, 4)
 }
 
 // What a look that leaves a list comes to: the next stage if none is left on it, else how many are.
 fn looked(store: Store, client: u32, list: Set, stage: u32) -> AdvanceTurn
     requires { ⌜ client < clients ⌝ }
-    ensures { λ r. ⌜ TakesUnseen (looked stage client list) store r ⌝ }
+    ensures { λ r. ⌜ TransformsUnseen (looked stage client list) store r ⌝ }
 {
     if list == 0 {
         return go_on(store, client, stage);
@@ -151,7 +151,7 @@ fn looked(store: Store, client: u32, list: Set, stage: u32) -> AdvanceTurn
 // 4: look at the request queue.
 fn look_requests(store: Store, client: u32) -> AdvanceTurn
     requires { ⌜ client < clients ⌝ }
-    ensures { λ r. ⌜ TakesUnseen (lookRequests client) store r ⌝ }
+    ensures { λ r. ⌜ TransformsUnseen (lookRequests client) store r ⌝ }
 {
     let queue = request_queue();
     let k = client as usize;
@@ -159,11 +159,11 @@ fn look_requests(store: Store, client: u32) -> AdvanceTurn
     let requests = store.request;
     let own = requests[k];
     let mut next = store;
-    let mut blockers = store.blockers;
-    let before = blockers[k];
+    let mut request_waits = store.requestWaits;
+    let before = request_waits[k];
     let list = record::look(queue, own, &stages, &requests, before);
-    blockers[k] = list;
-    next.blockers = blockers;
+    request_waits[k] = list;
+    next.requestWaits = request_waits;
     looked(next, client, list, 5)
 }
 
@@ -188,7 +188,7 @@ pub fn remove(store: Store, rows: &mut [u8], client: u32) -> Store
 fn check(store: Store, rows: &mut [u8], commits: &[u8], client: u32) -> AdvanceTurn
     requires { ⌜ client < clients ⌝ }
     requires { ⌜ fits store (length (now rows)) (length (now commits)) ≡ true ⌝ }
-    ensures { λ r. ⌜ Takes (check client) store (now (rows .entry)) (now (commits .entry)) r (now (rows .exit)) (now (commits .entry)) ⌝ }
+    ensures { λ r. ⌜ Transforms (check client) store (now (rows .entry)) (now (commits .entry)) r (now (rows .exit)) (now (commits .entry)) ⌝ }
 {
     let k = client as usize;
     let numbers = store.number;
@@ -210,7 +210,7 @@ fn check(store: Store, rows: &mut [u8], commits: &[u8], client: u32) -> AdvanceT
 // 7: take a commit number.
 fn take_commit(store: Store, client: u32) -> AdvanceTurn
     requires { ⌜ client < clients ⌝ }
-    ensures { λ r. ⌜ TakesUnseen (takeCommit client) store r ⌝ }
+    ensures { λ r. ⌜ TransformsUnseen (takeCommit client) store r ⌝ }
 {
     if store.taken == 4294967295 {
         return refuse(store, Refusal::Unfit);
@@ -228,22 +228,22 @@ fn take_commit(store: Store, client: u32) -> AdvanceTurn
 // 9: list all other commit queue rows, once.
 fn list_commits(store: Store, client: u32) -> AdvanceTurn
     requires { ⌜ client < clients ⌝ }
-    ensures { λ r. ⌜ TakesUnseen (listCommits client) store r ⌝ }
+    ensures { λ r. ⌜ TransformsUnseen (listCommits client) store r ⌝ }
 {
     let queue = commit_queue();
     let k = client as usize;
     let stages = store.stage;
     let mut next = store;
-    let mut lists = store.ahead;
+    let mut lists = store.commitWaits;
     lists[k] = record::others(queue, &stages, client);
-    next.ahead = lists;
+    next.commitWaits = lists;
     go_on(next, client, 10)
 }
 
 // 10: look at the commit queue.
 fn look_commits(store: Store, client: u32) -> AdvanceTurn
     requires { ⌜ client < clients ⌝ }
-    ensures { λ r. ⌜ TakesUnseen (lookCommits client) store r ⌝ }
+    ensures { λ r. ⌜ TransformsUnseen (lookCommits client) store r ⌝ }
 {
     let queue = commit_queue();
     let k = client as usize;
@@ -251,11 +251,11 @@ fn look_commits(store: Store, client: u32) -> AdvanceTurn
     let commits = store.commit;
     let own = commits[k];
     let mut next = store;
-    let mut lists = store.ahead;
+    let mut lists = store.commitWaits;
     let before = lists[k];
     let list = record::look(queue, own, &stages, &commits, before);
     lists[k] = list;
-    next.ahead = lists;
+    next.commitWaits = lists;
     looked(next, client, list, 11)
 }
 
@@ -264,7 +264,7 @@ fn add_commit(store: Store, commits: &mut [u8], client: u32) -> AdvanceTurn
     requires { ⌜ client < clients ⌝ }
     requires { ⌜ 8 * store .rows ≤ length (now commits) ⌝ }
     requires { ⌜ store .rows ≤ 1024 ⌝ }
-    ensures { λ r. ⌜ ((d : List ℕ) → Takes (addCommit client) store d (now (commits .entry)) r d (now (commits .exit))) ⌝ }
+    ensures { λ r. ⌜ ((d : List ℕ) → Transforms (addCommit client) store d (now (commits .entry)) r d (now (commits .exit))) ⌝ }
 {
     if store.rows <= store.entries {
         return refuse(store, Refusal::Unfit);
@@ -291,19 +291,19 @@ fn add_commit(store: Store, commits: &mut [u8], client: u32) -> AdvanceTurn
 // 12: leave the commit queue.
 fn leave_commits(store: Store, client: u32) -> AdvanceTurn
     requires { ⌜ client < clients ⌝ }
-    ensures { λ r. ⌜ TakesUnseen (leaveCommits client) store r ⌝ }
+    ensures { λ r. ⌜ TransformsUnseen (leaveCommits client) store r ⌝ }
 {
-    let ahead = store.ahead;
-    let lists = record::clear_all(ahead, client);
+    let commit_waits = store.commitWaits;
+    let lists = record::clear_all(commit_waits, client);
     let mut next = store;
-    next.ahead = lists;
+    next.commitWaits = lists;
     go_on(next, client, 13)
 }
 
 // 13: leave the request queue; closed.
 fn leave_requests(store: Store, client: u32) -> AdvanceTurn
     requires { ⌜ client < clients ⌝ }
-    ensures { λ r. ⌜ TakesUnseen (leaveRequests client) store r ⌝ }
+    ensures { λ r. ⌜ TransformsUnseen (leaveRequests client) store r ⌝ }
 {
     let k = client as usize;
     let commits = store.commit;
@@ -315,7 +315,7 @@ fn leave_requests(store: Store, client: u32) -> AdvanceTurn
 fn step(store: Store, rows: &mut [u8], commits: &mut [u8], client: u32) -> AdvanceTurn
     requires { ⌜ client < clients ⌝ }
     requires { ⌜ fits store (length (now rows)) (length (now commits)) ≡ true ⌝ }
-    ensures { λ r. ⌜ TakesDue client store (now (rows .entry)) (now (commits .entry)) r (now (rows .exit)) (now (commits .exit)) ⌝ }
+    ensures { λ r. ⌜ TransformsDue client store (now (rows .entry)) (now (commits .entry)) r (now (rows .exit)) (now (commits .exit)) ⌝ }
 {
     let k = client as usize;
     let stages = store.stage;
@@ -341,7 +341,7 @@ fn step(store: Store, rows: &mut [u8], commits: &mut [u8], client: u32) -> Advan
 
 // Advance takes the one step that the client's stage calls for.
 pub fn advance(store: Store, rows: &mut [u8], commits: &mut [u8], client: u32) -> AdvanceTurn
-    ensures { λ r. ⌜ leaves (r .store) (now (rows .exit)) (now (commits .exit)) (advanceOf (r .answer)) ≡ after (advance client) store (now (rows .entry)) (now (commits .entry)) ⌝ }
+    ensures { λ r. ⌜ afterOf (r .store) (now (rows .exit)) (now (commits .exit)) (advanceOf (r .answer)) ≡ onBytes (advance client) store (now (rows .entry)) (now (commits .entry)) ⌝ }
 {
     if !record::fit(store, rows.len(), commits.len()) {
         return refuse(store, Refusal::Unfit);

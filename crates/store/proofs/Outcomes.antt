@@ -14,42 +14,42 @@ use Rattle.spec.specs.Trim.{stays, inUse, trimmedRows, trimmedCommits}
 use Rattle.trimming.specs.Inner.{Trimmed}
 use Rattle.spec.specs.declared.Store.{Store}
 use Rattle.spec.specs.Answers.{Answered}
-use Rattle.spec.specs.Calls.{gives, removed, abandon, low, trimmedTo, trim}
-use Rattle.spec.specs.Bytes.{countersIn, clientsIn, recordOf, seen, storeOf, leaves, laidOut}
+use Rattle.spec.specs.Calls.{replies, removed, abandon, low, trimmedTo, trim}
+use Rattle.spec.specs.Bytes.{countersIn, clientsIn, recordOf, decode, storeOf, afterOf, encode}
 use Rattle.spec.proofs.Ends.{ends}
 use Rattle.steps.specs.Inner.{Removed}
 
 module _ (s : Store) (d c : List ℕ) where
   -- ---- Abandon
 
-  pub abandon-removed : (k n : ℕ) → n ≡ removed k (seen s d c) .rows - length (removed k (seen s d c) .dataRows)
-      → k < clients → (getD (s .number) k 0 ≡ 0 → ⊥) → getD (s .stage) k 0 < 12 → gives (removed k (seen s d c)) n ≡ abandon k (seen s d c)
-  unfolding abandon seen
+  pub abandon-removed : (k n : ℕ) → n ≡ removed k (decode s d c) .rows - length (removed k (decode s d c) .dataRows)
+      → k < clients → (getD (s .number) k 0 ≡ 0 → ⊥) → getD (s .stage) k 0 < 12 → replies (removed k (decode s d c)) n ≡ abandon k (decode s d c)
+  unfolding abandon decode
   abandon-removed k n e h m t = rw (lt-leb clients k h, ne-eqb (getD (s .number) k 0) 0 m, lt-leb 12 (getD (s .stage) k 0) t, e)
 
   -- the free figure after it
   pub removed-figure : (k : ℕ) (s′ : Store) (d′ : List ℕ) → Removed k s d s′ d′
-      → s′ .rows - s′ .used ≡ removed k (seen s d c) .rows - length (removed k (seen s d c) .dataRows)
+      → s′ .rows - s′ .used ≡ removed k (decode s d c) .rows - length (removed k (decode s d c) .dataRows)
   unfolding storeOf
   removed-figure k s′ d′ r = ap (λ (x : Store). x .rows - x .used) (r .store c)
 
   -- no more rows are left than there were
-  pub removed-fewer : (k : ℕ) → length (removed k (seen s d c) .dataRows) ≤ s .used
-  unfolding removed seen
+  pub removed-fewer : (k : ℕ) → length (removed k (decode s d c) .dataRows) ≤ s .used
+  unfolding removed decode
   removed-fewer k =
       let p : Row → Bool = λ r. not (hasTag (getD (s .number) k 0) r) in
       omega (arith, filter-fewer p (rowsIn 24 (s .used) d), length-rows 24 (s .used) d)
 
   pub removed-within : (k : ℕ) (s′ : Store) (d′ : List ℕ) → Removed k s d s′ d′ → s .used ≤ s .rows → s′ .used ≤ s′ .rows
-  unfolding storeOf removed seen
+  unfolding storeOf removed decode
   removed-within k s′ d′ r h =
       omega (arith, ap (λ (x : Store). x .rows) (r .store c), ap (λ (x : Store). x .used) (r .store c), removed-fewer k)
 
   -- ---- Trim
 
-  pub trim-ends : (l n m : ℕ) (d′ c′ : List ℕ) → l ≡ low (seen s d c) → Trimmed l (s .used) (s .entries) d c d′ c′ n m
-      → leaves (recordOf (s .rows) (s .limit) (countersIn s) (clientsIn s) n m) d′ c′ (Answered (s .used - n)) ≡ laidOut s d c (trim (seen s d c))
-  unfolding trim trimmedTo seen storeOf
+  pub trim-ends : (l n m : ℕ) (d′ c′ : List ℕ) → l ≡ low (decode s d c) → Trimmed l (s .used) (s .entries) d c d′ c′ n m
+      → afterOf (recordOf (s .rows) (s .limit) (countersIn s) (clientsIn s) n m) d′ c′ (Answered (s .used - n)) ≡ encode s d c (trim (decode s d c))
+  unfolding trim trimmedTo decode storeOf
   trim-ends l n m d′ c′ e t =
       rw (← e)
       (ends s d c _ _ _ _ _ (rw (t .data-rows .rows, t .commit-rows .rows)) (t .data-rows .bytes) (t .commit-rows .bytes)

@@ -1,10 +1,10 @@
 // The eight calls of the store, open to other programs: the record goes in and comes back by value, the buffers are lent. None asks anything of
-// its caller. What each leaves and answers is defined in the crate spec: `after` a call on a record and two buffers. Read, Write and Advance
+// its caller. What each leaves and answers is defined in the crate spec: `onBytes` a call on a record and two buffers. Read, Write and Advance
 // are passed on from crates of their own.
 ghost use mathlib.Core.Path.{_≡_};
 ghost use Rattle.spec.specs.Answers.{figureOf, beginOf};
 ghost use Rattle.spec.specs.Calls.{free, begin, abandon, trim};
-ghost use Rattle.spec.specs.Bytes.{leaves, after, setUp};
+ghost use Rattle.spec.specs.Bytes.{afterOf, onBytes, setUp};
 pub use reads::lookup;
 pub use reads::read;
 pub use reads::value;
@@ -23,7 +23,7 @@ pub use writes::write;
 
 // Set-up answers the free figure, which is the number of rows.
 pub fn set_up(rows: &mut [u8], commits: &mut [u8], first: u32, limit: u32) -> FigureTurn
-    ensures { λ r. ⌜ leaves (r .store) (now (rows .exit)) (now (commits .exit)) (figureOf (r .answer)) ≡ setUp (now (rows .entry)) (now (commits .entry)) first limit ⌝ }
+    ensures { λ r. ⌜ afterOf (r .store) (now (rows .exit)) (now (commits .exit)) (figureOf (r .answer)) ≡ setUp (now (rows .entry)) (now (commits .entry)) first limit ⌝ }
 {
     if !record::acceptable(rows.len(), commits.len(), first, limit) {
         return FigureTurn {
@@ -43,7 +43,7 @@ pub fn set_up(rows: &mut [u8], commits: &mut [u8], first: u32, limit: u32) -> Fi
 // ---- Free
 
 pub fn free(store: Store, rows: &[u8], commits: &[u8]) -> FigureTurn
-    ensures { λ r. ⌜ leaves (r .store) (now (rows .entry)) (now (commits .entry)) (figureOf (r .answer)) ≡ after free store (now (rows .entry)) (now (commits .entry)) ⌝ }
+    ensures { λ r. ⌜ afterOf (r .store) (now (rows .entry)) (now (commits .entry)) (figureOf (r .answer)) ≡ onBytes free store (now (rows .entry)) (now (commits .entry)) ⌝ }
 {
     if !record::fit(store, rows.len(), commits.len()) {
         return FigureTurn {
@@ -69,7 +69,7 @@ fn no_begin(store: Store, refusal: Refusal) -> BeginTurn
 }
 
 pub fn begin(store: Store, rows: &[u8], commits: &[u8], client: u32) -> BeginTurn
-    ensures { λ r. ⌜ leaves (r .store) (now (rows .entry)) (now (commits .entry)) (beginOf (r .answer)) ≡ after (begin client) store (now (rows .entry)) (now (commits .entry)) ⌝ }
+    ensures { λ r. ⌜ afterOf (r .store) (now (rows .entry)) (now (commits .entry)) (beginOf (r .answer)) ≡ onBytes (begin client) store (now (rows .entry)) (now (commits .entry)) ⌝ }
 {
     if !record::fit(store, rows.len(), commits.len()) {
         return no_begin(store, Refusal::Unfit);
@@ -96,10 +96,10 @@ pub fn begin(store: Store, rows: &[u8], commits: &[u8], client: u32) -> BeginTur
     requests[k] = 0;
     let mut commit_numbers = store.commit;
     commit_numbers[k] = 0;
-    let mut blockers = store.blockers;
-    blockers[k] = 0;
-    let mut ahead = store.ahead;
-    ahead[k] = 0;
+    let mut request_waits = store.requestWaits;
+    request_waits[k] = 0;
+    let mut commit_waits = store.commitWaits;
+    commit_waits[k] = 0;
     let mut next = store;
     next.issued = number;
     next.stage = stages;
@@ -107,8 +107,8 @@ pub fn begin(store: Store, rows: &[u8], commits: &[u8], client: u32) -> BeginTur
     next.snapshot = snapshots;
     next.request = requests;
     next.commit = commit_numbers;
-    next.blockers = blockers;
-    next.ahead = ahead;
+    next.requestWaits = request_waits;
+    next.commitWaits = commit_waits;
     BeginTurn {
         store: next,
         answer: BeginAnswer::Answered(Begun { number, snapshot }),
@@ -119,7 +119,7 @@ pub fn begin(store: Store, rows: &[u8], commits: &[u8], client: u32) -> BeginTur
 
 // Abandon answers the free figure.
 pub fn abandon(store: Store, rows: &mut [u8], commits: &[u8], client: u32) -> FigureTurn
-    ensures { λ r. ⌜ leaves (r .store) (now (rows .exit)) (now (commits .entry)) (figureOf (r .answer)) ≡ after (abandon client) store (now (rows .entry)) (now (commits .entry)) ⌝ }
+    ensures { λ r. ⌜ afterOf (r .store) (now (rows .exit)) (now (commits .entry)) (figureOf (r .answer)) ≡ onBytes (abandon client) store (now (rows .entry)) (now (commits .entry)) ⌝ }
 {
     if !record::fit(store, rows.len(), commits.len()) {
         return record::no_figure(store, Refusal::Unfit);
@@ -145,7 +145,7 @@ pub fn abandon(store: Store, rows: &mut [u8], commits: &[u8], client: u32) -> Fi
 
 // Trim answers how many data rows went.
 pub fn trim(store: Store, rows: &mut [u8], commits: &mut [u8]) -> FigureTurn
-    ensures { λ r. ⌜ leaves (r .store) (now (rows .exit)) (now (commits .exit)) (figureOf (r .answer)) ≡ after trim store (now (rows .entry)) (now (commits .entry)) ⌝ }
+    ensures { λ r. ⌜ afterOf (r .store) (now (rows .exit)) (now (commits .exit)) (figureOf (r .answer)) ≡ onBytes trim store (now (rows .entry)) (now (commits .entry)) ⌝ }
 {
     if !record::fit(store, rows.len(), commits.len()) {
         return record::no_figure(store, Refusal::Unfit);

@@ -8,13 +8,13 @@ use native.Mathlib.Omega.{arith}
 use lib.ListN.{length}
 use borrow.Author.Tests.{ne-eqb}
 use Rattle.spec.specs.Choice.{if_then_else_}
-use Rattle.spec.specs.Text.{str, begins, closes, oneAt, twoAt, clientForm, readWith, writeOf, bareForm}
+use Rattle.spec.specs.Text.{str, begins, bracketAt, oneAt, twoAt, clientForm, readWith, writeOf, bareForm}
 use Rattle.spec.specs.declared.Form.{Form}
 use Rattle.spec.specs.declared.Form.the-variants.{Begin, Advance, Abandon, Trim, Free, Other}
 
 -- no closing bracket stands 32 places behind the end
-pub closes-past : (s : List ℕ) (n : ℕ) → length s ≤ n → closes s (n + 32) ≡ false
-closes-past s n h = rw (ne-eqb (length s) (n + 32 + 1) (λ e. omega arith))
+pub bracket-past : (s : List ℕ) (n : ℕ) → length s ≤ n → bracketAt s (n + 32) ≡ false
+bracket-past s n h = rw (ne-eqb (length s) (n + 32 + 1) (λ e. omega arith))
 
 abbrev pub fromFree : List ℕ → Form
 fromFree s = if begins (str "(free)") s then bareForm Free s else Other

@@ -1,13 +1,13 @@
 // Text of the step program: a form from a line, and the printing of words, numbers and bytes. Definitions: crate spec, specs/Text.antt.
 use spec::Decimal;
 use spec::Form;
-use spec::One;
-use spec::Two;
+use spec::OneNumber;
+use spec::TwoNumbers;
 ghost use mathlib.Core.Path.{_≡_};
 ghost use mathlib.Core.Bool.{true};
 ghost use Prim.Native.Nat.{_+_, _≤_, _<_};
 ghost use lib.ListN.{length};
-ghost use Rattle.spec.specs.Text.{begins as Text·begins, stands as Text·stands, closes as Text·closes, digitVal, decimalAt, decimalOf, hexVal, hexAt, hexDigit, hexText, valueIn, oneAt, spacedAt, twoAt, setUpOf, writeOf, formIn, formOf};
+ghost use Rattle.spec.specs.Text.{begins as Text·begins, stands as Text·stands, bracketAt, digitVal, decimalAt, decimalOf, hexVal, hexAt, hexDigit, hexText, valueIn, oneAt, spacedAt, twoAt, setUpOf, writeOf, formIn, formOf};
 ghost use Rattle.text.specs.Inner.{Put, Spelled};
 
 // ---- bytes of a line
@@ -42,8 +42,8 @@ fn stands(b: u8, line: &[u8], at: usize) -> bool
 }
 
 // Whether the line's last byte stands at a place, and is a closing bracket.
-fn closes(line: &[u8], at: usize) -> bool
-    ensures { λ r. ⌜ r ≡ Text·closes (now (line .entry)) at ⌝ }
+fn bracket_at(line: &[u8], at: usize) -> bool
+    ensures { λ r. ⌜ r ≡ bracketAt (now (line .entry)) at ⌝ }
 {
     if line.len() <= at {
         return false;
@@ -169,18 +169,18 @@ pub fn value_in(line: &[u8], at: usize) -> [u8; 16]
 // ---- the form of a line
 
 // A number and the closing bracket.
-fn one_at(line: &[u8], at: usize) -> One
+fn one_at(line: &[u8], at: usize) -> OneNumber
     ensures { λ r. ⌜ r ≡ oneAt (now (line .entry)) at ⌝ }
 {
     match decimal(line, at) {
         Decimal::Is { value, next } => {
-            if closes(line, next) {
-                One::Only(value)
+            if bracket_at(line, next) {
+                OneNumber::Only(value)
             } else {
-                One::NotOne
+                OneNumber::NotOne
             }
         }
-        Decimal::No => One::NotOne,
+        Decimal::No => OneNumber::NotOne,
     }
 }
 
@@ -204,15 +204,15 @@ fn spaced_at(line: &[u8], at: usize) -> Decimal
 }
 
 // A number, a space, a number and the closing bracket.
-fn two_at(line: &[u8], at: usize) -> Two
+fn two_at(line: &[u8], at: usize) -> TwoNumbers
     ensures { λ r. ⌜ r ≡ twoAt (now (line .entry)) at ⌝ }
 {
     match spaced_at(line, at) {
         Decimal::Is { value, next } => match one_at(line, next) {
-            One::Only(second) => Two::Both(value, second),
-            One::NotOne => Two::NotTwo,
+            OneNumber::Only(second) => TwoNumbers::Both(value, second),
+            OneNumber::NotOne => TwoNumbers::NotTwo,
         },
-        Decimal::No => Two::NotTwo,
+        Decimal::No => TwoNumbers::NotTwo,
     }
 }
 
@@ -222,12 +222,12 @@ fn set_up_of(line: &[u8]) -> Form
 {
     match spaced_at(line, 8) {
         Decimal::Is { value, next } => match two_at(line, next) {
-            Two::Both(first, limit) => Form::SetUp {
+            TwoNumbers::Both(first, limit) => Form::SetUp {
                 rows: value,
                 first,
                 limit,
             },
-            Two::NotTwo => Form::Other,
+            TwoNumbers::NotTwo => Form::Other,
         },
         Decimal::No => Form::Other,
     }
@@ -248,7 +248,7 @@ fn write_of(line: &[u8]) -> Form
         return Form::Other;
     };
     if next < line.len() {
-        if closes(line, next + 32) {
+        if bracket_at(line, next + 32) {
             if hex_at(line, next) {
                 return Form::Write {
                     client,
@@ -270,14 +270,14 @@ fn form_in(line: &[u8]) -> Form
     }
     if begins(b"(begin ", line) {
         return match one_at(line, 7) {
-            One::Only(client) => Form::Begin(client),
-            One::NotOne => Form::Other,
+            OneNumber::Only(client) => Form::Begin(client),
+            OneNumber::NotOne => Form::Other,
         };
     }
     if begins(b"(read ", line) {
         return match two_at(line, 6) {
-            Two::Both(client, cell) => Form::Read(client, cell),
-            Two::NotTwo => Form::Other,
+            TwoNumbers::Both(client, cell) => Form::Read(client, cell),
+            TwoNumbers::NotTwo => Form::Other,
         };
     }
     if begins(b"(write ", line) {
@@ -285,14 +285,14 @@ fn form_in(line: &[u8]) -> Form
     }
     if begins(b"(advance ", line) {
         return match one_at(line, 9) {
-            One::Only(client) => Form::Advance(client),
-            One::NotOne => Form::Other,
+            OneNumber::Only(client) => Form::Advance(client),
+            OneNumber::NotOne => Form::Other,
         };
     }
     if begins(b"(abandon ", line) {
         return match one_at(line, 9) {
-            One::Only(client) => Form::Abandon(client),
-            One::NotOne => Form::Other,
+            OneNumber::Only(client) => Form::Abandon(client),
+            OneNumber::NotOne => Form::Other,
         };
     }
     if begins(b"(trim)", line) {

@@ -14,7 +14,7 @@ use Rattle.removal.proofs.Moving.{kept-where, filter-all, left-all}
 use Rattle.spec.specs.Trim.{overtaken, stays, inUse, trimmedRows, trimmedCommits}
 use Rattle.trimming.specs.Inner.{Trimmed}
 
-pub trimmed : (low n m : ℕ) (s c flags marks s′ c′ : List ℕ) (n′ m′ : ℕ)
+pub trim-leaves : (low n m : ℕ) (s c flags marks s′ c′ : List ℕ) (n′ m′ : ℕ)
     → 24 * n ≤ length s
     → Flags (stays low (rowsIn 24 n s) (rowsIn 8 m c)) 24 n s flags
     → Left 24 n (keptFrom flags 0 (rowsIn 24 n s)) s s′ n′
@@ -22,7 +22,7 @@ pub trimmed : (low n m : ℕ) (s c flags marks s′ c′ : List ℕ) (n′ m′ 
     → Left 8 m (keptFrom marks 0 (rowsIn 8 m c)) c c′ m′
     → Trimmed low n m s c s′ c′ n′ m′
 unfolding trimmedRows trimmedCommits
-trimmed low n m s c flags marks s′ c′ n′ m′ l f first g second =
+trim-leaves low n m s c flags marks s′ c′ n′ m′ l f first g second =
     let p : Row → Bool = stays low (rowsIn 24 n s) (rowsIn 8 m c) in
     let left : List Row = filter p (rowsIn 24 n s) in
     let one : Left 24 n left s s′ n′ = rw (kept-where p flags 24 n s f) at first in

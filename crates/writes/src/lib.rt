@@ -9,7 +9,7 @@ ghost use Rattle.spec.specs.Rows.{rowsIn, hasTag};
 ghost use Rattle.spec.specs.Share.{count, cellsOf};
 ghost use Rattle.spec.specs.Answers.{figureOf};
 ghost use Rattle.spec.specs.Calls.{added, replaced, write};
-ghost use Rattle.spec.specs.Bytes.{seen, leaves, laidOut, fits, after};
+ghost use Rattle.spec.specs.Bytes.{decode, afterOf, encode, fits, onBytes};
 use search::Own;
 use spec::CELLS;
 use spec::FigureAnswer;
@@ -46,7 +46,7 @@ fn add_row(
     requires { ⌜ cell < 1024 ⌝ }
     requires { ⌜ length (now value) ≡ 16 ⌝ }
     requires { ⌜ own ≡ count (hasTag (getD (store .number) client 0)) (rowsIn 24 (store .used) (now rows)) ⌝ }
-    ensures { λ r. ⌜ leaves (r .store) (now (rows .exit)) (now (commits .entry)) (figureOf (r .answer)) ≡ laidOut store (now (rows .entry)) (now (commits .entry)) (added client cell (now (value .entry)) (seen store (now (rows .entry)) (now (commits .entry)))) ⌝ }
+    ensures { λ r. ⌜ afterOf (r .store) (now (rows .exit)) (now (commits .entry)) (figureOf (r .answer)) ≡ encode store (now (rows .entry)) (now (commits .entry)) (added client cell (now (value .entry)) (decode store (now (rows .entry)) (now (commits .entry)))) ⌝ }
 {
     let used = store.used as usize;
     let k = client as usize;
@@ -72,7 +72,7 @@ fn replace_row(store: Store, rows: &mut [u8], commits: &[u8], at: usize, value: 
     requires { ⌜ fits store (length (now rows)) (length (now commits)) ≡ true ⌝ }
     requires { ⌜ at < store .used ⌝ }
     requires { ⌜ length (now value) ≡ 16 ⌝ }
-    ensures { λ r. ⌜ leaves (r .store) (now (rows .exit)) (now (commits .entry)) (figureOf (r .answer)) ≡ laidOut store (now (rows .entry)) (now (commits .entry)) (replaced at (now (value .entry)) (seen store (now (rows .entry)) (now (commits .entry)))) ⌝ }
+    ensures { λ r. ⌜ afterOf (r .store) (now (rows .exit)) (now (commits .entry)) (figureOf (r .answer)) ≡ encode store (now (rows .entry)) (now (commits .entry)) (replaced at (now (value .entry)) (decode store (now (rows .entry)) (now (commits .entry)))) ⌝ }
 {
     rows::replace_value(rows, at, value);
     FigureTurn {
@@ -90,7 +90,7 @@ pub fn write(
     cell: u32,
     value: &[u8],
 ) -> FigureTurn
-    ensures { λ r. ⌜ leaves (r .store) (now (rows .exit)) (now (commits .entry)) (figureOf (r .answer)) ≡ after (write client cell (now (value .entry))) store (now (rows .entry)) (now (commits .entry)) ⌝ }
+    ensures { λ r. ⌜ afterOf (r .store) (now (rows .exit)) (now (commits .entry)) (figureOf (r .answer)) ≡ onBytes (write client cell (now (value .entry))) store (now (rows .entry)) (now (commits .entry)) ⌝ }
 {
     if !record::fit(store, rows.len(), commits.len()) {
         return record::no_figure(store, Refusal::Unfit);

@@ -9,9 +9,9 @@ use Rattle.spec.specs.Rows.{rowsIn}
 use Rattle.search.specs.Inner.{Next}
 use Rattle.orderly.specs.Inner.{rowEntry}
 use Rattle.spec.specs.Orderly.{orderlyCommits, orderlyRows}
-use Rattle.spec.specs.Served.{Marks}
+use Rattle.spec.specs.Marked.{Marks}
 use Rattle.marking.specs.Inner.{Judged, Used}
-use Rattle.orderly.proofs.Order.{differ, disorder-commits, disorder-rows, decided}
+use Rattle.orderly.proofs.Order.{differ, disorder-commits, disorder-rows, order-decided}
 use Rattle.orderly.proofs.Entries.{entries-alike, entries-open}
 use Rattle.marking.proofs.Marking.{marks-start, plain-start, judged-start, used-start, all-plain}
 use Rattle.marking.proofs.from_newest.Statement.{statement}
@@ -104,7 +104,7 @@ returns-3 c =
     let tested = c .before .before .before .before .before .before .before .before in
     let plain = tested .open-plain-from .ensures .plain (not-false (tested .open-plain-from .result)
     (c .before .before .before .before .before .before .before .if2 .left)) in
-    let decision = decided (served .result) ds cs (ordered at)
+    let decision = order-decided (served .result) ds cs (ordered at)
     (λ e. all-plain (a .low) (a .used) (a .entries) (a .rows .now) (a .commits .now) _ (at .link-rows .result) (served .ensures .1 .0 e)
     (at .link-rows .ensures .0) plain)
     (served .ensures .1 .1 .1 .1) in

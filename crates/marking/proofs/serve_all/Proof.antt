@@ -3,7 +3,7 @@ use Prim.Native.Nat.{_+_, _-_, _≤_}
 use mathlib.Core.Path.{_≡_, refl}
 use borrow.Author.Needs.{needs}
 use native.Mathlib.Omega.{arith}
-use Rattle.spec.specs.Served.{Marks}
+use Rattle.spec.specs.Marked.{Marks}
 use Rattle.marking.specs.Inner.{SoFar, Judged, Used}
 use Rattle.orderly.proofs.Order.{differ}
 use Rattle.marking.proofs.serve_all.Statement.{statement}

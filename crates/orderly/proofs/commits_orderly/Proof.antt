@@ -12,7 +12,7 @@ use Rattle.spec.proofs.Rows.{rows-start}
 use Rattle.spec.specs.Share.{any}
 use Rattle.trimming.specs.Inner.{place}
 use Rattle.orderly.specs.Inner.{tagPlace, Linked, Chain}
-use Rattle.spec.specs.Orderly.{under, commits, orderlyCommits}
+use Rattle.spec.specs.Orderly.{under, isCommitOf, orderlyCommits}
 use Rattle.orderly.proofs.Chains.{linked-none, chain-start}
 use Rattle.orderly.proofs.Entries.{from-head, tag-next}
 use Rattle.orderly.proofs.Order.{differ, disorder, order-low, order-again, order-more, order-end, under-end, under-step}
@@ -83,7 +83,7 @@ chained-entry-requires c κs =
 again : (c : tie.After-chained-entry Inv-loop μ-loop)
     → let a = c .before .before .before .before .before .before .before .before .before .before .args in
     let k = c .before .before .before .before .before .before .before .before .loop .i - 1 in
-    any (commits (commitTag (rowAt 8 k (a .commits .now)))) (rowsFrom 8 (a .entries) (k + 1) (a .commits .now))
+    any (isCommitOf (commitTag (rowAt 8 k (a .commits .now)))) (rowsFrom 8 (a .entries) (k + 1) (a .commits .now))
     ≡ ltb (c .chained-entry .result) (a .entries)
 again c =
     let a = c .before .before .before .before .before .before .before .before .before .before .args in

@@ -7,7 +7,7 @@ use borrow.Author.Tests.{lt-ltb, lt-leb, le-leb, eq-eqb, ne-eqb, not-true, not-f
 use lib.ListN.{getD}
 use Rattle.spec.specs.Set.{clients}
 use Rattle.spec.specs.Calls.{read}
-use Rattle.spec.specs.Bytes.{seen}
+use Rattle.spec.specs.Bytes.{decode}
 use Rattle.spec.proofs.Ends.{fit-of, ends-unfit, refuses}
 use Rattle.reads.proofs.Outcomes.{read-found}
 use Rattle.reads.proofs.read.Statement.{statement}
@@ -50,7 +50,7 @@ no-read-requires-4 : tie.Need-no-read-requires-4
 no-read-requires-4 c κs = search needs
 
 returns-4 : tie.Need-returns-4
-unfolding read seen
+unfolding read decode
 returns-4 c =
     let a = c .before .before .before .before .before .before .before .before .before .args in
     let s = a .store in
@@ -66,7 +66,7 @@ no-read-requires-5 : tie.Need-no-read-requires-5
 no-read-requires-5 c κs = search needs
 
 returns-5 : tie.Need-returns-5
-unfolding read seen
+unfolding read decode
 returns-5 c =
     let a = c .before .before .before .before .before .before .before .before .before .before .before .args in
     let s = a .store in

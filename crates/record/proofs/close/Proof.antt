@@ -38,20 +38,20 @@ array-write-commits c = search needs
 clear-all-requires : tie.Need-clear-all-requires
 clear-all-requires c κs = search needs
 
-mul-blockers-left : tie.Need-mul-blockers-left
-mul-blockers-left c = search needs
+mul-request-waits-left : tie.Need-mul-request-waits-left
+mul-request-waits-left c = search needs
 
-array-write-blockers-left : tie.Need-array-write-blockers-left
-array-write-blockers-left c = search needs
+array-write-request-waits-left : tie.Need-array-write-request-waits-left
+array-write-request-waits-left c = search needs
 
 clear-all-requires-2 : tie.Need-clear-all-requires-2
 clear-all-requires-2 c κs = search needs
 
-mul-ahead-left : tie.Need-mul-ahead-left
-mul-ahead-left c = search needs
+mul-commit-waits-left : tie.Need-mul-commit-waits-left
+mul-commit-waits-left c = search needs
 
-array-write-ahead-left : tie.Need-array-write-ahead-left
-array-write-ahead-left c = search needs
+array-write-commit-waits-left : tie.Need-array-write-commit-waits-left
+array-write-commit-waits-left c = search needs
 
 returns : tie.Need-returns
 unfolding closed
@@ -72,9 +72,9 @@ close-spec =
     mul-commits
     array-write-commits
     clear-all-requires
-    mul-blockers-left
-    array-write-blockers-left
+    mul-request-waits-left
+    array-write-request-waits-left
     clear-all-requires-2
-    mul-ahead-left
-    array-write-ahead-left
+    mul-commit-waits-left
+    array-write-commit-waits-left
     returns)

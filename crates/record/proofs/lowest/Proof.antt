@@ -3,7 +3,7 @@
 use mathlib.Core.Path.{refl}
 use borrow.Author.Needs.{needs}
 use Rattle.spec.specs.Calls.{low}
-use Rattle.spec.specs.Bytes.{seen}
+use Rattle.spec.specs.Bytes.{decode}
 use Rattle.record.proofs.lowest.Statement.{statement}
 use Rattle.record.proofs.lowest.Tie as tie
 
@@ -17,16 +17,16 @@ enum-told : tie.Need-enum-told
 enum-told c = search needs
 
 returns : tie.Need-returns
-unfolding low seen
+unfolding low decode
 returns c =
     let s = c .before .before .before .before .before .before .before .before .args .store in
-    λ d e. rw (← c .before .before .before .smallest-open .ensures (seen s d e) refl refl, c .before .best .given .1)
+    λ d e. rw (← c .before .before .before .smallest-open .ensures (decode s d e) refl refl, c .before .best .given .1)
 
 returns-2 : tie.Need-returns-2
-unfolding low seen
+unfolding low decode
 returns-2 c =
     let s = c .before .before .before .before .before .before .before .args .store in
-    λ d e. rw (← c .before .before .smallest-open .ensures (seen s d e) refl refl, c .enum-told .given .1)
+    λ d e. rw (← c .before .before .smallest-open .ensures (decode s d e) refl refl, c .enum-told .given .1)
 
 pub lowest-spec : {M : Type 1} → statement M
 lowest-spec =

@@ -2,7 +2,7 @@
 use Prim.Native.Nat.{_*_, _≤_}
 use borrow.Author.Needs.{needs}
 use native.Mathlib.Omega.{arith}
-use Rattle.removal.proofs.Moving.{closing, closed}
+use Rattle.removal.proofs.Moving.{closing, freed-cleared}
 use Rattle.removal.proofs.compact.Statement.{statement}
 use Rattle.removal.proofs.compact.Tie as tie
 
@@ -23,7 +23,7 @@ returns c =
       rows = kept .ensures .0;
       bytes =
           rw (c .before .before .clear .ensures)
-          (closed (8 * a .words) (a .used) (kept .result) _ (a .buf .now) (kept .last .0) (kept .ensures .0) (room (c .before .before .before .before) .0) (start .pre .0) (kept .ensures .1) (kept .kept .0));
+          (freed-cleared (8 * a .words) (a .used) (kept .result) _ (a .buf .now) (kept .last .0) (kept .ensures .0) (room (c .before .before .before .before) .0) (start .pre .0) (kept .ensures .1) (kept .kept .0));
     }
 
 pub compact-spec : {M : Type 1} → statement M

@@ -4,7 +4,7 @@ use mathlib.Core.Path.{_≡_, sym, _∙_}
 use native.Mathlib.Omega.{arith}
 use borrow.Author.Needs.{needs}
 use Rattle.spec.specs.Rows.{rowAt, rowsIn, cellOf}
-use Rattle.spec.specs.declared.Seen.the-variants.{Nothing}
+use Rattle.spec.specs.declared.Lookup.the-variants.{Nothing}
 use Rattle.spec.specs.Look.{lookFor}
 use Rattle.search.proofs.Passes.{skip}
 use Rattle.search.proofs.Rest.{readRest, read-start, read-skip, read-own, read-other, read-end}

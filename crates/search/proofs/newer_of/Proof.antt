@@ -1,17 +1,17 @@
 -- `search::newer_of` goes by the cases of its definition.
 use mathlib.Core.Path.{sym}
 use borrow.Author.Needs.{needs}
-use Rattle.spec.specs.Look.{seenAt}
+use Rattle.spec.specs.Look.{versionAt}
 use Rattle.search.proofs.Folds.{newer-none}
 use Rattle.search.proofs.newer_of.Statement.{statement}
 use Rattle.search.proofs.newer_of.Tie as tie
 
 returns : tie.Need-returns
-unfolding seenAt
+unfolding versionAt
 returns c = rw (c .before .before .number .given .1) (c .newer-version .ensures)
 
 returns-2 : tie.Need-returns-2
-unfolding seenAt
+unfolding versionAt
 returns-2 c = rw (c .enum-told .given .1) (sym (newer-none (c .before .before .args .best)))
 
 pub newer-of-spec : {M : Type 1} → statement M

@@ -3,7 +3,7 @@
 use mathlib.Core.Path.{sym, ap, _∙_}
 use native.Mathlib.Omega.{arith}
 use borrow.Author.Needs.{needs}
-use Rattle.spec.specs.Bytes.{laidOut}
+use Rattle.spec.specs.Bytes.{encode}
 use Rattle.spec.proofs.Ends.{fit-of}
 use Rattle.steps.proofs.Outcomes.{check-found, removed-ends}
 use Rattle.steps.proofs.check.Statement.{statement}
@@ -46,13 +46,13 @@ same-length : tie.Need-same-length
 same-length c = search needs
 
 returns : tie.Need-returns
-returns c = removed-ends _ _ _ _ _ _ _ (c .before .before .remove .ensures) ∙ ap (laidOut _ _ _) (check-found _ _ _ _ _ (sym (c .before .before .before .before .before .found .given .1) ∙ c .before .before .before .before .before .before .before .conflict .ensures))
+returns c = removed-ends _ _ _ _ _ _ _ (c .before .before .remove .ensures) ∙ ap (encode _ _ _) (check-found _ _ _ _ _ (sym (c .before .before .before .before .before .found .given .1) ∙ c .before .before .before .before .before .before .before .conflict .ensures))
 
 same-length-2 : tie.Need-same-length-2
 same-length-2 c = search needs
 
 returns-2 : tie.Need-returns-2
-returns-2 c = c .go-on .ensures _ _ ∙ ap (laidOut _ _ _) (check-found _ _ _ _ _ (sym (c .before .enum-told .given .1) ∙ c .before .before .before .conflict .ensures))
+returns-2 c = c .go-on .ensures _ _ ∙ ap (encode _ _ _) (check-found _ _ _ _ _ (sym (c .before .enum-told .given .1) ∙ c .before .before .before .conflict .ensures))
 
 pub check-spec : {M : Type 1} → statement M
 check-spec =

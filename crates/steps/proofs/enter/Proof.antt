@@ -2,7 +2,7 @@
 -- Assumes nothing.
 use borrow.Author.Needs.{needs}
 use borrow.Author.Tests.{not-true, not-false}
-use Rattle.spec.specs.Bytes.{seen}
+use Rattle.spec.specs.Bytes.{decode}
 use Rattle.spec.specs.Steps.{enter}
 use Rattle.steps.proofs.enter.Statement.{statement}
 use Rattle.steps.proofs.enter.Tie as tie
@@ -29,7 +29,7 @@ finish-requires : tie.Need-finish-requires
 finish-requires c κs = search needs
 
 returns : tie.Need-returns
-unfolding enter seen
+unfolding enter decode
 returns c =
     let h = c .before .before .before .has-rows in
     λ e. rw (← h .ensures, not-true (h .result) (c .before .before .if1 .taken)) (c .finish .ensures _ e)
@@ -38,7 +38,7 @@ go-on-requires : tie.Need-go-on-requires
 go-on-requires c κs = search needs
 
 returns-2 : tie.Need-returns-2
-unfolding enter seen
+unfolding enter decode
 returns-2 c =
     let h = c .before .before .has-rows in
     λ e. rw (← h .ensures, not-false (h .result) (c .before .if1 .left)) (c .go-on .ensures _ e)

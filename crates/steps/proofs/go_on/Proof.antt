@@ -1,7 +1,7 @@
 -- `steps::go_on`: one stage is stored, and nothing else changes.
 -- Assumes nothing.
 use borrow.Author.Needs.{needs}
-use Rattle.spec.specs.Bytes.{seen}
+use Rattle.spec.specs.Bytes.{decode}
 use Rattle.spec.specs.Steps.{goOn}
 use Rattle.spec.proofs.Ends.{ends-same}
 use Rattle.steps.proofs.go_on.Statement.{statement}
@@ -14,7 +14,7 @@ array-write-stages : tie.Need-array-write-stages
 array-write-stages c = search needs
 
 returns : tie.Need-returns
-unfolding goOn seen
+unfolding goOn decode
 returns c = λ d e. ends-same _ d e _ _ _
 
 pub go-on-spec : {M : Type 1} → statement M

@@ -1,7 +1,7 @@
 -- `steps::leave_commits`: the client is cleared from all lists of the commit queue.
 -- Assumes nothing.
 use borrow.Author.Needs.{needs}
-use Rattle.spec.specs.Bytes.{seen, laidOut}
+use Rattle.spec.specs.Bytes.{decode, encode}
 use Rattle.spec.specs.Steps.{leaveCommits}
 use Rattle.steps.proofs.leave_commits.Statement.{statement}
 use Rattle.steps.proofs.leave_commits.Tie as tie
@@ -13,7 +13,7 @@ go-on-requires : tie.Need-go-on-requires
 go-on-requires c κs = search needs
 
 returns : tie.Need-returns
-unfolding leaveCommits seen laidOut
+unfolding leaveCommits decode encode
 returns c = λ d e. rw (← c .before .clear-all .ensures) (c .go-on .ensures d e)
 
 pub leave-commits-spec : {M : Type 1} → statement M

@@ -1,7 +1,7 @@
 -- `steps::leave_requests`: the client is closed.
 -- Assumes nothing.
 use borrow.Author.Needs.{needs}
-use Rattle.spec.specs.Bytes.{seen}
+use Rattle.spec.specs.Bytes.{decode}
 use Rattle.spec.specs.Steps.{leaveRequests}
 use Rattle.steps.proofs.leave_requests.Statement.{statement}
 use Rattle.steps.proofs.leave_requests.Tie as tie
@@ -16,7 +16,7 @@ finish-requires : tie.Need-finish-requires
 finish-requires c κs = search needs
 
 returns : tie.Need-returns
-unfolding leaveRequests seen
+unfolding leaveRequests decode
 returns c = c .finish .ensures
 
 pub leave-requests-spec : {M : Type 1} → statement M

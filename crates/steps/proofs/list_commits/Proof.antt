@@ -1,7 +1,7 @@
 -- `steps::list_commits`: the list is that of all others in the commit queue.
 -- Assumes nothing.
 use borrow.Author.Needs.{needs}
-use Rattle.spec.specs.Bytes.{seen, laidOut}
+use Rattle.spec.specs.Bytes.{decode, encode}
 use Rattle.spec.specs.Steps.{others, listCommits}
 use Rattle.steps.proofs.list_commits.Statement.{statement}
 use Rattle.steps.proofs.list_commits.Tie as tie
@@ -22,7 +22,7 @@ go-on-requires : tie.Need-go-on-requires
 go-on-requires c κs = search needs
 
 returns : tie.Need-returns
-unfolding listCommits others seen laidOut
+unfolding listCommits others decode encode
 returns c =
     let queue = c .before .before .before .before .before .commit-queue in
     λ d e. rw (← (rw (queue .ensures) at (c .before .others .ensures))) (c .go-on .ensures d e)

@@ -1,7 +1,7 @@
 -- `steps::list_requests`: the list is that of the queued clients who share a cell.
 -- Assumes nothing.
 use borrow.Author.Needs.{needs}
-use Rattle.spec.specs.Bytes.{seen, laidOut}
+use Rattle.spec.specs.Bytes.{decode, encode}
 use Rattle.spec.specs.Steps.{listRequests, others}
 use Rattle.steps.proofs.list_requests.Statement.{statement}
 use Rattle.steps.proofs.list_requests.Tie as tie
@@ -24,17 +24,17 @@ others-requires c κs = search needs
 sharers-requires : tie.Need-sharers-requires
 sharers-requires c κs = search needs
 
-mul-blockers : tie.Need-mul-blockers
-mul-blockers c = search needs
+mul-request-waits : tie.Need-mul-request-waits
+mul-request-waits c = search needs
 
-array-write-blockers : tie.Need-array-write-blockers
-array-write-blockers c = search needs
+array-write-request-waits : tie.Need-array-write-request-waits
+array-write-request-waits c = search needs
 
 go-on-requires : tie.Need-go-on-requires
 go-on-requires c κs = search needs
 
 returns : tie.Need-returns
-unfolding listRequests others seen laidOut
+unfolding listRequests others decode encode
 returns c =
     let queue = c .before .before .before .before .before .before .before .before .before .request-queue in
     let queued = c .before .before .before .before .others in
@@ -50,7 +50,7 @@ list-requests-spec =
     cast-used
     others-requires
     sharers-requires
-    mul-blockers
-    array-write-blockers
+    mul-request-waits
+    array-write-request-waits
     go-on-requires
     returns)

@@ -1,7 +1,7 @@
 -- `steps::look_commits`: the list that the look leaves decides.
 -- Assumes nothing.
 use borrow.Author.Needs.{needs}
-use Rattle.spec.specs.Bytes.{seen, laidOut}
+use Rattle.spec.specs.Bytes.{decode, encode}
 use Rattle.spec.specs.Steps.{lookCommits}
 use Rattle.steps.proofs.look_commits.Statement.{statement}
 use Rattle.steps.proofs.look_commits.Tie as tie
@@ -34,7 +34,7 @@ looked-requires : tie.Need-looked-requires
 looked-requires c κs = search needs
 
 returns : tie.Need-returns
-unfolding lookCommits seen laidOut
+unfolding lookCommits decode encode
 returns c =
     let queue = c .before .before .before .before .before .before .before .commit-queue in
     λ d e. rw (← (rw (queue .ensures) at (c .before .look .ensures))) (c .looked .ensures d e)

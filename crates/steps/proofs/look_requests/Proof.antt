@@ -1,7 +1,7 @@
 -- `steps::look_requests`: the list that the look leaves decides.
 -- Assumes nothing.
 use borrow.Author.Needs.{needs}
-use Rattle.spec.specs.Bytes.{seen, laidOut}
+use Rattle.spec.specs.Bytes.{decode, encode}
 use Rattle.spec.specs.Steps.{lookRequests}
 use Rattle.steps.proofs.look_requests.Statement.{statement}
 use Rattle.steps.proofs.look_requests.Tie as tie
@@ -24,17 +24,17 @@ array-read-before c = search needs
 look-requires : tie.Need-look-requires
 look-requires c κs = search needs
 
-mul-blockers : tie.Need-mul-blockers
-mul-blockers c = search needs
+mul-request-waits : tie.Need-mul-request-waits
+mul-request-waits c = search needs
 
-array-write-blockers : tie.Need-array-write-blockers
-array-write-blockers c = search needs
+array-write-request-waits : tie.Need-array-write-request-waits
+array-write-request-waits c = search needs
 
 looked-requires : tie.Need-looked-requires
 looked-requires c κs = search needs
 
 returns : tie.Need-returns
-unfolding lookRequests seen laidOut
+unfolding lookRequests decode encode
 returns c =
     let queue = c .before .before .before .before .before .before .before .request-queue in
     λ d e. rw (← (rw (queue .ensures) at (c .before .look .ensures))) (c .looked .ensures d e)
@@ -49,7 +49,7 @@ look-requests-spec =
     mul-before
     array-read-before
     look-requires
-    mul-blockers
-    array-write-blockers
+    mul-request-waits
+    array-write-request-waits
     looked-requires
     returns)

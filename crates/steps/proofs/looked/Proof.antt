@@ -3,7 +3,7 @@
 use native.Mathlib.Omega.{arith}
 use borrow.Author.Needs.{needs}
 use borrow.Author.Tests.{eq-eqb, ne-eqb}
-use Rattle.spec.specs.Bytes.{seen}
+use Rattle.spec.specs.Bytes.{decode}
 use Rattle.spec.specs.Steps.{looked}
 use Rattle.spec.proofs.Ends.{stays}
 use Rattle.steps.proofs.looked.Statement.{statement}
@@ -20,7 +20,7 @@ count-requires : tie.Need-count-requires
 count-requires c κs = search needs
 
 returns-2 : tie.Need-returns-2
-unfolding looked seen
+unfolding looked decode
 returns-2 c = λ d e. stays _ d e _ _ (rw (ne-eqb (c .before .before .args .list) 0 (λ z. omega arith), c .count .ensures))
 
 pub looked-spec : {M : Type 1} → statement M

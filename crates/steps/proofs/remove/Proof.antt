@@ -7,7 +7,7 @@ use Rattle.spec.specs.Rows.{rowsIn}
 use Rattle.spec.proofs.Rows.{length-rows, filter-fewer}
 use Rattle.removal.specs.Inner.{otherTag}
 use Rattle.spec.specs.Calls.{removed}
-use Rattle.spec.specs.Bytes.{seen, storeOf}
+use Rattle.spec.specs.Bytes.{decode, storeOf}
 use Rattle.steps.proofs.Outcomes.{removed-store}
 use Rattle.steps.proofs.remove.Statement.{statement}
 use Rattle.steps.proofs.remove.Tie as tie
@@ -38,7 +38,7 @@ same-length : tie.Need-same-length
 same-length c = search needs
 
 returns : tie.Need-returns
-unfolding removed seen storeOf otherTag
+unfolding removed decode storeOf otherTag
 returns c =
     let a = c .before .before .before .before .before .before .before .before .args in
     let r = c .before .before .before .remove-rows in

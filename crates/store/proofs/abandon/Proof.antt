@@ -7,7 +7,7 @@ use borrow.Author.Tests.{lt-leb, le-leb, eq-eqb, ne-eqb, not-true, not-false}
 use lib.ListN.{getD}
 use Rattle.spec.specs.Set.{clients}
 use Rattle.spec.specs.Calls.{abandon}
-use Rattle.spec.specs.Bytes.{seen, laidOut}
+use Rattle.spec.specs.Bytes.{decode, encode}
 use Rattle.spec.proofs.Ends.{fit-of, ends-unfit, goes, refuses}
 use Rattle.steps.proofs.Outcomes.{removed-ends}
 use Rattle.store.proofs.Outcomes.{abandon-removed, removed-figure, removed-within}
@@ -42,7 +42,7 @@ no-figure-requires-3 : tie.Need-no-figure-requires-3
 no-figure-requires-3 c κs = search needs
 
 returns-3 : tie.Need-returns-3
-unfolding abandon seen
+unfolding abandon decode
 returns-3 c =
     let a = c .before .before .before .before .before .before .before .before .args in
     let s = a .store in
@@ -58,7 +58,7 @@ no-figure-requires-4 : tie.Need-no-figure-requires-4
 no-figure-requires-4 c κs = search needs
 
 returns-4 : tie.Need-returns-4
-unfolding abandon seen
+unfolding abandon decode
 returns-4 c =
     let a = c .before .before .before .before .before .before .before .before .before .before .args in
     let s = a .store in
@@ -80,7 +80,7 @@ returns-5 c =
     let gone = c .before .before .before .remove .ensures in
     goes _ _ _ _ (sym (c .before .before .before .before .before .before .before .before .before .before .before .fit .ensures) ∙ not-false _ (c .before .before .before .before .before .before .before .before .before .before .if1 .left))
     (removed-ends _ _ _ _ _ _ _ gone
-    ∙ ap (laidOut _ _ _) (abandon-removed _ _ _ _ _ (removed-figure _ _ _ _ _ _ gone) (omega arith) (c .before .before .before .before .before .before .before .if3 .left) (omega arith)))
+    ∙ ap (encode _ _ _) (abandon-removed _ _ _ _ _ (removed-figure _ _ _ _ _ _ gone) (omega arith) (c .before .before .before .before .before .before .before .if3 .left) (omega arith)))
 
 pub abandon-spec : {M : Type 1} → statement M
 abandon-spec =

@@ -7,7 +7,7 @@ use borrow.Author.Tests.{lt-leb, le-leb, eq-eqb, ne-eqb, not-true, not-false}
 use lib.ListN.{getD}
 use Rattle.spec.specs.Set.{clients}
 use Rattle.spec.specs.Calls.{begun, begin}
-use Rattle.spec.specs.Bytes.{seen}
+use Rattle.spec.specs.Bytes.{decode}
 use Rattle.spec.proofs.Ends.{ends-unfit, settles, refuses}
 use Rattle.store.proofs.begin.Statement.{statement}
 use Rattle.store.proofs.begin.Tie as tie
@@ -40,7 +40,7 @@ no-begin-requires-3 : tie.Need-no-begin-requires-3
 no-begin-requires-3 c κs = search needs
 
 returns-3 : tie.Need-returns-3
-unfolding begin seen
+unfolding begin decode
 returns-3 c =
     let a = c .before .before .before .before .before .before .before .before .args in
     let s = a .store in
@@ -50,7 +50,7 @@ no-begin-requires-4 : tie.Need-no-begin-requires-4
 no-begin-requires-4 c κs = search needs
 
 returns-4 : tie.Need-returns-4
-unfolding begin seen
+unfolding begin decode
 returns-4 c =
     let a = c .before .before .before .before .before .before .before .before .before .before .args in
     let s = a .store in
@@ -89,20 +89,20 @@ mul-commit-numbers c = search needs
 array-write-commit-numbers : tie.Need-array-write-commit-numbers
 array-write-commit-numbers c = search needs
 
-mul-blockers : tie.Need-mul-blockers
-mul-blockers c = search needs
+mul-request-waits : tie.Need-mul-request-waits
+mul-request-waits c = search needs
 
-array-write-blockers : tie.Need-array-write-blockers
-array-write-blockers c = search needs
+array-write-request-waits : tie.Need-array-write-request-waits
+array-write-request-waits c = search needs
 
-mul-ahead : tie.Need-mul-ahead
-mul-ahead c = search needs
+mul-commit-waits : tie.Need-mul-commit-waits
+mul-commit-waits c = search needs
 
-array-write-ahead : tie.Need-array-write-ahead
-array-write-ahead c = search needs
+array-write-commit-waits : tie.Need-array-write-commit-waits
+array-write-commit-waits c = search needs
 
 returns-5 : tie.Need-returns-5
-unfolding begin begun seen
+unfolding begin begun decode
 returns-5 c =
     let a = c .before .before .before .before .before .before .before .before .before .before .before .before .before .before .before .before .args in
     let s = a .store in
@@ -134,8 +134,8 @@ begin-spec =
     array-write-requests
     mul-commit-numbers
     array-write-commit-numbers
-    mul-blockers
-    array-write-blockers
-    mul-ahead
-    array-write-ahead
+    mul-request-waits
+    array-write-request-waits
+    mul-commit-waits
+    array-write-commit-waits
     returns-5)

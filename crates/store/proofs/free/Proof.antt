@@ -6,7 +6,7 @@ use borrow.Author.Needs.{needs}
 use borrow.Author.Tests.{not-true, not-false}
 use Rattle.spec.proofs.Rows.{length-rows}
 use Rattle.spec.specs.Calls.{free}
-use Rattle.spec.specs.Bytes.{seen}
+use Rattle.spec.specs.Bytes.{decode}
 use Rattle.spec.proofs.Ends.{fit-of, ends-unfit, settles}
 use Rattle.store.proofs.free.Statement.{statement}
 use Rattle.store.proofs.free.Tie as tie
@@ -21,7 +21,7 @@ sub-t10 : tie.Need-sub-t10
 sub-t10 c = let f = fit-of _ _ _ (sym (c .before .before .fit .ensures) ∙ not-false _ (c .before .if1 .left)) in omega arith
 
 returns-2 : tie.Need-returns-2
-unfolding free seen
+unfolding free decode
 returns-2 c =
     let a = c .before .before .before .before .before .args in
     settles _ _ _ _ _ _ _ (sym (c .before .before .fit .ensures) ∙ not-false _ (c .before .if1 .left)) (rw (length-rows 24 (a .store .used) (a .rows .now)))

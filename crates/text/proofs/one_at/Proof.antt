@@ -8,13 +8,13 @@ returns : tie.Need-returns
 unfolding oneAt
 returns c =
     let d = c .before .before .before in
-    rw (← d .before .before .decimal .ensures, d .value .given .1, ← c .before .closes .ensures, c .if1 .taken)
+    rw (← d .before .before .decimal .ensures, d .value .given .1, ← c .before .bracket-at .ensures, c .if1 .taken)
 
 returns-2 : tie.Need-returns-2
 unfolding oneAt
 returns-2 c =
     let d = c .before .before .before in
-    rw (← d .before .before .decimal .ensures, d .value .given .1, ← c .before .closes .ensures, c .if1 .left)
+    rw (← d .before .before .decimal .ensures, d .value .given .1, ← c .before .bracket-at .ensures, c .if1 .left)
 
 returns-3 : tie.Need-returns-3
 unfolding oneAt

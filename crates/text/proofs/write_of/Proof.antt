@@ -1,7 +1,7 @@
 -- The definition at what was found. Assumes nothing.
 use borrow.Author.Needs.{needs}
 use Rattle.spec.specs.Text.{writeOf}
-use Rattle.text.proofs.Forms.{closes-past}
+use Rattle.text.proofs.Forms.{bracket-past}
 use Rattle.text.proofs.write_of.Statement.{statement}
 use Rattle.text.proofs.write_of.Tie as tie
 
@@ -21,7 +21,7 @@ returns-3 c =
     let x = c .before .before .before .before .before .before in
     let k = x .before .before .before .before in
     rw (← k .before .before .spaced-at .ensures, k .client .given .1, ← x .before .before .spaced-at2 .ensures, x .cell .given .1)
-    (rw (← c .before .before .before .closes .ensures, c .before .before .if2 .taken, ← c .before .hex-at .ensures, c .if3 .taken))
+    (rw (← c .before .before .before .bracket-at .ensures, c .before .before .if2 .taken, ← c .before .hex-at .ensures, c .if3 .taken))
 
 returns-4 : tie.Need-returns-4
 unfolding writeOf
@@ -29,7 +29,7 @@ returns-4 c =
     let x = c .before .before .before .before .before .before in
     let k = x .before .before .before .before in
     rw (← k .before .before .spaced-at .ensures, k .client .given .1, ← x .before .before .spaced-at2 .ensures, x .cell .given .1)
-    (rw (← c .before .before .before .closes .ensures, c .before .before .if2 .taken, ← c .before .hex-at .ensures, c .if3 .left))
+    (rw (← c .before .before .before .bracket-at .ensures, c .before .before .if2 .taken, ← c .before .hex-at .ensures, c .if3 .left))
 
 returns-5 : tie.Need-returns-5
 unfolding writeOf
@@ -37,7 +37,7 @@ returns-5 c =
     let x = c .before .before .before .before in
     let k = x .before .before .before .before in
     rw (← k .before .before .spaced-at .ensures, k .client .given .1, ← x .before .before .spaced-at2 .ensures, x .cell .given .1)
-    (rw (← c .before .closes .ensures, c .if2 .left))
+    (rw (← c .before .bracket-at .ensures, c .if2 .left))
 
 returns-6 : tie.Need-returns-6
 unfolding writeOf
@@ -45,7 +45,7 @@ returns-6 c =
     let x = c .before .before in
     let k = x .before .before .before .before in
     rw (← k .before .before .spaced-at .ensures, k .client .given .1, ← x .before .before .spaced-at2 .ensures, x .cell .given .1)
-    (rw (closes-past _ _ (c .if1 .left)))
+    (rw (bracket-past _ _ (c .if1 .left)))
 
 pub write-of-spec : {M : Type 1} → statement M
 write-of-spec =

@@ -2,7 +2,7 @@
 use borrow.Author.Needs.{needs}
 use native.Mathlib.Omega.{arith}
 use Rattle.removal.proofs.Moving.{kept-at-most}
-use Rattle.trimming.proofs.Trimmed.{trimmed, untrimmed}
+use Rattle.trimming.proofs.Trimmed.{trim-leaves, untrimmed}
 use Rattle.trimming.proofs.trim.Statement.{statement}
 use Rattle.trimming.proofs.trim.Tie as tie
 
@@ -27,7 +27,7 @@ returns-2 c =
     let first = c .before .before .before .before .before .before .before .before .before .before .close-up in
     let marks = c .before .before .before .before .before .commit-flags in
     let second = c .before .before .close-up2 in
-    trimmed (a .low) (a .used) (a .entries) (a .rows .now) (a .commits .now) (stay .result) (marks .result) (first .last .0) (second .last .0) (first .result) (second .result)
+    trim-leaves (a .low) (a .used) (a .entries) (a .rows .now) (a .commits .now) (stay .result) (marks .result) (first .last .0) (second .last .0) (first .result) (second .result)
     (start .pre .0) (stay .ensures) (first .ensures) (marks .ensures) (second .ensures)
 
 pub trim-spec : {M : Type 1} → statement M

@@ -9,7 +9,7 @@ use Rattle.spec.specs.Set.{clients}
 use Rattle.spec.specs.Rows.{rowsIn}
 use Rattle.spec.specs.Look.{isOwn, find}
 use Rattle.spec.specs.Calls.{write}
-use Rattle.spec.specs.Bytes.{seen, laidOut}
+use Rattle.spec.specs.Bytes.{decode, encode}
 use Rattle.spec.proofs.Ends.{fit-of, ends-unfit, goes, refuses}
 use Rattle.writes.proofs.Outcomes.{own-row, own-rows, write-stored, found-below}
 use Rattle.spec.specs.declared.Found.{Found}
@@ -62,7 +62,7 @@ no-figure-requires-5 : tie.Need-no-figure-requires-5
 no-figure-requires-5 c κs = search needs
 
 returns-5 : tie.Need-returns-5
-unfolding write seen
+unfolding write decode
 returns-5 c =
     let a = c .before .before .before .before .before .before .before .before .before .before .before .args in
     let s = a .store in
@@ -78,7 +78,7 @@ no-figure-requires-6 : tie.Need-no-figure-requires-6
 no-figure-requires-6 c κs = search needs
 
 returns-6 : tie.Need-returns-6
-unfolding write seen
+unfolding write decode
 returns-6 c =
     let a = c .before .before .before .before .before .before .before .before .before .before .before .before .before .args in
     let s = a .store in
@@ -117,7 +117,7 @@ returns-7 : tie.Need-returns-7
 returns-7 c =
     goes _ _ _ _ (sym (c .before .before .before .before .before .before .before .before .before .before .before .before .before .before .before .before .before .before .fit .ensures) ∙ not-false _ (c .before .before .before .before .before .before .before .before .before .before .before .before .before .before .before .before .before .if1 .left))
     (c .before .before .replace-row .ensures
-    ∙ ap (laidOut _ _ _) (write-stored _ _ _ _ _ (omega arith) (omega arith) (c .before .before .before .before .before .before .before .before .before .before .before .before .if5 .left) (c .before .before .before .before .before .before .before .before .before .before .if6 .left) _ _ (omega arith) (sym (own-row _ _ _ _ (c .before .before .before .before .before .before .before .own-row .ensures) (c .before .before .before .before .before .own .given .1)))))
+    ∙ ap (encode _ _ _) (write-stored _ _ _ _ _ (omega arith) (omega arith) (c .before .before .before .before .before .before .before .before .before .before .before .before .if5 .left) (c .before .before .before .before .before .before .before .before .before .before .if6 .left) _ _ (omega arith) (sym (own-row _ _ _ _ (c .before .before .before .before .before .before .before .own-row .ensures) (c .before .before .before .before .before .own .given .1)))))
 
 same-length-2 : tie.Need-same-length-2
 same-length-2 c = search needs
@@ -126,7 +126,7 @@ returns-8 : tie.Need-returns-8
 returns-8 c =
     goes _ _ _ _ (sym (c .before .before .before .before .before .before .before .before .before .before .before .before .before .before .before .before .before .before .fit .ensures) ∙ not-false _ (c .before .before .before .before .before .before .before .before .before .before .before .before .before .before .before .before .before .if1 .left))
     (c .before .before .add-row .ensures
-    ∙ ap (laidOut _ _ _) (write-stored _ _ _ _ _ (omega arith) (omega arith) (c .before .before .before .before .before .before .before .before .before .before .before .before .if5 .left) (c .before .before .before .before .before .before .before .before .before .before .if6 .left) _ _ (omega arith) (sym (own-rows _ _ _ _ (c .before .before .before .before .before .before .before .own-row .ensures) (c .before .before .before .before .before .own2 .given .1) .0))))
+    ∙ ap (encode _ _ _) (write-stored _ _ _ _ _ (omega arith) (omega arith) (c .before .before .before .before .before .before .before .before .before .before .before .before .if5 .left) (c .before .before .before .before .before .before .before .before .before .before .if6 .left) _ _ (omega arith) (sym (own-rows _ _ _ _ (c .before .before .before .before .before .before .before .own-row .ensures) (c .before .before .before .before .before .own2 .given .1) .0))))
 
 pub write-spec : {M : Type 1} → statement M
 write-spec =

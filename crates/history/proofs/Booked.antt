@@ -10,49 +10,49 @@ use native.Mathlib.Decide.{ℕ-discrete, decLe}
 use native.Mathlib.Omega.{arith}
 use lib.ListN.{length}
 use Rattle.history.proofs.Lists.{in-nil, in-case, in-one, in-left, append-case, ite-elim, none-some, option-case, drop?, drop-in, first, first-in, first-none, first-append, first-keep, orNext}
-use Rattle.history.proofs.Model.{DRow, CRow, find, valueAt, numOf, numberAt, replace, some?, without}
-use Rattle.history.proofs.Plain.{Entry, newer, older, lastOf}
-use Rattle.history.proofs.Invariant.{Uniq, Rising, upTo, whole}
+use Rattle.history.proofs.Model.{DRow, CRow, findₛ, valueAtₛ, numOf, numberAt, replace, some?, without}
+use Rattle.history.proofs.Plain.{Entry, newerₚ, olderₚ, lastOfₚ}
+use Rattle.history.proofs.Invariant.{Uniq, RisingBook, valuesUpTo, valuesOf}
 use Rattle.spec.specs.Table.{Value, orElse}
 
-pub book-max : (book : List Entry) → Rising book → (e : Entry) → In e book → e .number ≤ lastOf book
-unfolding lastOf
+pub book-max : (book : List Entry) → RisingBook book → (e : Entry) → In e book → e .number ≤ lastOfₚ book
+unfolding lastOfₚ
 book-max [] h e i = absurd (in-nil i)
 book-max (d ∷ l) h e i = in-case i (λ q. omega (arith, ap (λ (z : Entry). z .number) q)) (λ j. omega (arith, h .0 e j))
 
-pub same-entry : (book : List Entry) → Rising book → (d e : Entry) → In d book → In e book → d .number ≡ e .number → d ≡ e
+pub same-entry : (book : List Entry) → RisingBook book → (d e : Entry) → In d book → In e book → d .number ≡ e .number → d ≡ e
 same-entry [] h d e i j q = absurd (in-nil i)
 same-entry (f ∷ l) h d e i j q =
     in-case i
     (λ x. in-case j (λ y. x ∙ sym y) (λ y. absurd (omega (arith, h .0 e y, ap (λ (z : Entry). z .number) x))))
     (λ x. in-case j (λ y. absurd (omega (arith, h .0 d x, ap (λ (z : Entry). z .number) y))) (λ y. same-entry l (h .1) d e x y q))
 
-pub newer-none : (book : List Entry) → newer (length book) book ≡ []
-unfolding newer
-newer-none [] = refl
-newer-none (e ∷ l) = if-neg (decLe (suc (length l)) (length l)) (λ h. omega arith) _ _
+pub newerₚ-none : (book : List Entry) → newerₚ (length book) book ≡ []
+unfolding newerₚ
+newerₚ-none [] = refl
+newerₚ-none (e ∷ l) = if-neg (decLe (suc (length l)) (length l)) (λ h. omega arith) _ _
 
-pub newer-cons : (n : ℕ) (e : Entry) (l : List Entry) → n ≤ length l → newer n (e ∷ l) ≡ e ∷ newer n l
-unfolding newer
-newer-cons n e l h = if-pos (decLe n (length l)) h _ _
+pub newerₚ-cons : (n : ℕ) (e : Entry) (l : List Entry) → n ≤ length l → newerₚ n (e ∷ l) ≡ e ∷ newerₚ n l
+unfolding newerₚ
+newerₚ-cons n e l h = if-pos (decLe n (length l)) h _ _
 
-pub older-all : (book : List Entry) → older (length book) book ≡ book
-unfolding older
+pub older-all : (book : List Entry) → olderₚ (length book) book ≡ book
+unfolding olderₚ
 older-all [] = refl
 older-all (e ∷ l) = if-neg (decLe (suc (length l)) (length l)) (λ h. omega arith) _ _
 
-pub older-cons : (n : ℕ) (e : Entry) (l : List Entry) → n ≤ length l → older n (e ∷ l) ≡ older n l
-unfolding older
+pub older-cons : (n : ℕ) (e : Entry) (l : List Entry) → n ≤ length l → olderₚ n (e ∷ l) ≡ olderₚ n l
+unfolding olderₚ
 older-cons n e l h = if-pos (decLe n (length l)) h _ _
 
-pub upTo-whole : (S : ℕ) (book : List Entry) (x : ℕ) → ((e : Entry) → In e book → e .number ≤ S) → upTo S book x ≡ whole book x
-unfolding upTo whole
+pub upTo-whole : (S : ℕ) (book : List Entry) (x : ℕ) → ((e : Entry) → In e book → e .number ≤ S) → valuesUpTo S book x ≡ valuesOf book x
+unfolding valuesUpTo valuesOf
 upTo-whole S [] x h = refl
 upTo-whole S (e ∷ l) x h =
     if-pos (decLe (e .number) S) (h e (here refl)) _ _ ∙ ap (orElse (e .puts x)) (upTo-whole S l x (λ d i. h d (there i)))
 
-pub upTo-skip : (S : ℕ) (e : Entry) (l : List Entry) (x : ℕ) → S < e .number → upTo S (e ∷ l) x ≡ upTo S l x
-unfolding upTo
+pub upTo-skip : (S : ℕ) (e : Entry) (l : List Entry) (x : ℕ) → S < e .number → valuesUpTo S (e ∷ l) x ≡ valuesUpTo S l x
+unfolding valuesUpTo
 upTo-skip S e l x h = if-neg (decLe (e .number) S) (λ z. omega arith) _ _
 
 -- What the table up to S holds, by the commits.
@@ -66,8 +66,8 @@ pub record Top (S : ℕ) (book : List Entry) (x : ℕ) (v : Value) : Type 0 wher
 nothing : {o : Option Value} → o ≡ none → IsSome o → ⊥
 nothing z i = rw z at i
 
-pub upTo-some : (S : ℕ) (book : List Entry) → Rising book → (x : ℕ) (v : Value) → upTo S book x ≡ some v → Top S book x v
-unfolding upTo
+pub upTo-some : (S : ℕ) (book : List Entry) → RisingBook book → (x : ℕ) (v : Value) → valuesUpTo S book x ≡ some v → Top S book x v
+unfolding valuesUpTo
 upTo-some S [] h x v q = absurd (none-some refl q)
 upTo-some S (e ∷ l) h x v q =
     by-cases (decLe (e .number) S)
@@ -91,8 +91,8 @@ upTo-some S (e ∷ l) h x v q =
       last = λ d i k j. in-case i (λ y. absurd (n (subst (λ (z : Entry). z .number ≤ S) y k) (subst (λ (z : Entry). IsSome (z .puts x)) y j))) (λ y. t .last d y k j);
     }
 
-pub upTo-none : (S : ℕ) (book : List Entry) (x : ℕ) → upTo S book x ≡ none → (d : Entry) → In d book → d .number ≤ S → IsSome (d .puts x) → ⊥
-unfolding upTo
+pub upTo-none : (S : ℕ) (book : List Entry) (x : ℕ) → valuesUpTo S book x ≡ none → (d : Entry) → In d book → d .number ≤ S → IsSome (d .puts x) → ⊥
+unfolding valuesUpTo
 upTo-none S [] x q d i k j = in-nil i
 upTo-none S (e ∷ l) x q d i k j =
     by-cases (decLe (e .number) S)
@@ -106,39 +106,39 @@ pub is-some : {A : Type 0} (o : Option A) → IsSome o → (v : A) × (o ≡ som
 is-some none h = absurd h
 is-some (some v) h = (v, refl)
 
-pub value-at : (t x : ℕ) (r : DRow) (v : Value) → valueAt t x r ≡ some v → (r .tag ≡ t) × (r .cell ≡ x) × (r .value ≡ v)
-unfolding valueAt
+pub value-at : (t x : ℕ) (r : DRow) (v : Value) → valueAtₛ t x r ≡ some v → (r .tag ≡ t) × (r .cell ≡ x) × (r .value ≡ v)
+unfolding valueAtₛ
 value-at t x r v =
     ite-elim (λ o. o ≡ some v → (r .tag ≡ t) × (r .cell ≡ x) × (r .value ≡ v)) (ℕ-discrete (r .tag) t)
     (λ e. ite-elim (λ o. o ≡ some v → (r .tag ≡ t) × (r .cell ≡ x) × (r .value ≡ v)) (ℕ-discrete (r .cell) x)
     (λ e′ q. (e, e′, Option·some-injective _ _ q)) (λ _ q. absurd (none-some refl q)))
     (λ _ q. absurd (none-some refl q))
 
-pub value-tag : (t x : ℕ) (r : DRow) → r .tag ≢ t → valueAt t x r ≡ none
-unfolding valueAt
+pub value-tag : (t x : ℕ) (r : DRow) → r .tag ≢ t → valueAtₛ t x r ≡ none
+unfolding valueAtₛ
 value-tag t x r n = if-neg (ℕ-discrete (r .tag) t) n _ _
 
-pub value-cell : (t x : ℕ) (r : DRow) → r .cell ≢ x → valueAt t x r ≡ none
-value-cell t x r n = option-case (valueAt t x r) (λ e. e) (λ v e. absurd (n (value-at t x r v e .1)))
+pub value-cell : (t x : ℕ) (r : DRow) → r .cell ≢ x → valueAtₛ t x r ≡ none
+value-cell t x r n = option-case (valueAtₛ t x r) (λ e. e) (λ v e. absurd (n (value-at t x r v e .1)))
 
-pub value-same : (t x : ℕ) (r : DRow) → r .tag ≡ t → r .cell ≡ x → valueAt t x r ≡ some (r .value)
-unfolding valueAt
+pub value-same : (t x : ℕ) (r : DRow) → r .tag ≡ t → r .cell ≡ x → valueAtₛ t x r ≡ some (r .value)
+unfolding valueAtₛ
 value-same t x r e f = if-pos (ℕ-discrete (r .tag) t) e _ _ ∙ if-pos (ℕ-discrete (r .cell) x) f _ _
 
 -- A row that is found, and rows that are not.
-pub find-row : (t x : ℕ) (d : List DRow) (v : Value) → find t x d ≡ some v → (r : DRow) × In r d × (r .tag ≡ t) × (r .cell ≡ x) × (r .value ≡ v)
-unfolding find
-find-row t x d v e = let r = first-in (valueAt t x) d v e in let q = value-at t x (r .0) v (r .2) in (r .0, r .1, q .0, q .1, q .2)
+pub find-row : (t x : ℕ) (d : List DRow) (v : Value) → findₛ t x d ≡ some v → (r : DRow) × In r d × (r .tag ≡ t) × (r .cell ≡ x) × (r .value ≡ v)
+unfolding findₛ
+find-row t x d v e = let r = first-in (valueAtₛ t x) d v e in let q = value-at t x (r .0) v (r .2) in (r .0, r .1, q .0, q .1, q .2)
 
-pub find-none : (t x : ℕ) (d : List DRow) → find t x d ≡ none → (r : DRow) → In r d → r .tag ≡ t → r .cell ≡ x → ⊥
-unfolding find
-find-none t x d e r i p q = none-some (first-none (valueAt t x) d r e i) (value-same t x r p q)
+pub find-none : (t x : ℕ) (d : List DRow) → findₛ t x d ≡ none → (r : DRow) → In r d → r .tag ≡ t → r .cell ≡ x → ⊥
+unfolding findₛ
+find-none t x d e r i p q = none-some (first-none (valueAtₛ t x) d r e i) (value-same t x r p q)
 
-pub row-find : (t x : ℕ) (d : List DRow) (r : DRow) → In r d → r .tag ≡ t → r .cell ≡ x → IsSome (find t x d)
-row-find t x d r i p q = option-case (find t x d) (λ e. absurd (find-none t x d e r i p q)) (λ v e. rw e tt)
+pub row-find : (t x : ℕ) (d : List DRow) (r : DRow) → In r d → r .tag ≡ t → r .cell ≡ x → IsSome (findₛ t x d)
+row-find t x d r i p q = option-case (findₛ t x d) (λ e. absurd (find-none t x d e r i p q)) (λ v e. rw e tt)
 
-pub none-found : (t x : ℕ) (d : List DRow) → ((r : DRow) → In r d → r .tag ≡ t → ⊥) → find t x d ≡ none
-none-found t x d h = option-case (find t x d) (λ e. e) (λ v e. let r = find-row t x d v e in absurd (h (r .0) (r .1) (r .2)))
+pub none-found : (t x : ℕ) (d : List DRow) → ((r : DRow) → In r d → r .tag ≡ t → ⊥) → findₛ t x d ≡ none
+none-found t x d h = option-case (findₛ t x d) (λ e. e) (λ v e. let r = find-row t x d v e in absurd (h (r .0) (r .1) (r .2)))
 
 pub without-none : (t : ℕ) (d : List DRow) → (((r : DRow) × In r d × (r .tag ≡ t)) → ⊥) → without t d ≡ d
 unfolding without drop?
@@ -146,13 +146,13 @@ without-none t [] n = refl
 without-none t (r ∷ d) n =
     if-neg (ℕ-discrete (r .tag) t) (λ e. n (r, here refl, e)) _ _ ∙ ap (λ (l : List DRow). r ∷ l) (without-none t d (λ h. n (h .0, there (h .1), h .2)))
 
-pub find-uniq : (d : List DRow) → Uniq d → (r : DRow) → In r d → find (r .tag) (r .cell) d ≡ some (r .value)
-unfolding find first
+pub find-uniq : (d : List DRow) → Uniq d → (r : DRow) → In r d → findₛ (r .tag) (r .cell) d ≡ some (r .value)
+unfolding findₛ first
 find-uniq [] u r i = absurd (in-nil i)
 find-uniq (h ∷ l) u r i =
     in-case i
     (λ e. rw (value-same (r .tag) (r .cell) h (ap (λ (z : DRow). z .tag) (sym e)) (ap (λ (z : DRow). z .cell) (sym e))) (ap (λ (z : DRow). some (z .value)) (sym e)))
-    (λ j. option-case (valueAt (r .tag) (r .cell) h)
+    (λ j. option-case (valueAtₛ (r .tag) (r .cell) h)
     (λ e. rw e (find-uniq l (u .1) r j))
     (λ v e. let q = value-at (r .tag) (r .cell) h v e in absurd (u .0 r j (sym (q .0)) (sym (q .1)))))
 
@@ -161,25 +161,25 @@ unfolding drop?
 uniq-drop p [] u = tt
 uniq-drop p (h ∷ l) u = ite-elim Uniq (p h) (λ _. uniq-drop p l (u .1)) (λ _. (λ r i. u .0 r (drop-in p l r i .0), uniq-drop p l (u .1)))
 
-pub find-without : (t u x : ℕ) (d : List DRow) → u ≢ t → find u x (without t d) ≡ find u x d
-unfolding find without
-find-without t u x d n = first-keep (valueAt u x) (λ r. ℕ-discrete (r .tag) t) d (λ r i e. value-tag u x r (λ q. n (sym q ∙ e)))
+pub find-without : (t u x : ℕ) (d : List DRow) → u ≢ t → findₛ u x (without t d) ≡ findₛ u x d
+unfolding findₛ without
+find-without t u x d n = first-keep (valueAtₛ u x) (λ r. ℕ-discrete (r .tag) t) d (λ r i e. value-tag u x r (λ q. n (sym q ∙ e)))
 
 -- A write of value v by transaction t to cell x.
 pub record Written (t x : ℕ) (v : Value) (d d′ : List DRow) : Type 0 where
-  pub this : find t x d′ ≡ some v
-  pub tags : (u y : ℕ) → u ≢ t → find u y d′ ≡ find u y d
-  pub cells : (y : ℕ) → y ≢ x → find t y d′ ≡ find t y d
+  pub this : findₛ t x d′ ≡ some v
+  pub tags : (u y : ℕ) → u ≢ t → findₛ u y d′ ≡ findₛ u y d
+  pub cells : (y : ℕ) → y ≢ x → findₛ t y d′ ≡ findₛ t y d
   pub new : (r : DRow) → In r d′ → In r d ⊎ ((r .tag ≡ t) × (r .cell ≡ x))
   pub old : (r : DRow) → In r d → r .tag ≢ t → In r d′
   pub uniq : Uniq d → Uniq d′
 
-pub write-added : (t x : ℕ) (v : Value) (d : List DRow) → find t x d ≡ none → Written t x v d (d ++ (record { tag = t; cell = x; value = v } ∷ []))
-unfolding find first
+pub write-added : (t x : ℕ) (v : Value) (d : List DRow) → findₛ t x d ≡ none → Written t x v d (d ++ (record { tag = t; cell = x; value = v } ∷ []))
+unfolding findₛ first
 write-added t x v d e = record {
-  this = first-append (valueAt t x) d (row ∷ []) ∙ rw (e, value-same t x row refl refl);
-  tags = λ u y n. first-append (valueAt u y) d (row ∷ []) ∙ rw (value-tag u y row (λ q. n (sym q))) (or-none (first (valueAt u y) d));
-  cells = λ y n. first-append (valueAt t y) d (row ∷ []) ∙ rw (value-cell t y row (λ q. n (sym q))) (or-none (first (valueAt t y) d));
+  this = first-append (valueAtₛ t x) d (row ∷ []) ∙ rw (e, value-same t x row refl refl);
+  tags = λ u y n. first-append (valueAtₛ u y) d (row ∷ []) ∙ rw (value-tag u y row (λ q. n (sym q))) (or-none (first (valueAtₛ u y) d));
+  cells = λ y n. first-append (valueAtₛ t y) d (row ∷ []) ∙ rw (value-cell t y row (λ q. n (sym q))) (or-none (first (valueAtₛ t y) d));
   new = λ r i. append-case d i (λ j. inl j) (λ j. let q = in-one j in inr (ap (λ (z : DRow). z .tag) q, ap (λ (z : DRow). z .cell) q));
   old = λ r i n. in-left (row ∷ []) i;
   uniq = λ u. go d u (find-none t x d e);
@@ -208,8 +208,8 @@ module _ (t x : ℕ) (v : Value) where
   unfolding replace
   replace-in [] r i = absurd (in-nil i)
   replace-in (h ∷ l) r i =
-      (ite-elim (λ L. In r L → In r (h ∷ l) ⊎ ((r .tag ≡ t) × (r .cell ≡ x))) (some? (valueAt t x h))
-      (λ k i. let w = is-some (valueAt t x h) k in let q = value-at t x h (w .0) (w .1) in
+      (ite-elim (λ L. In r L → In r (h ∷ l) ⊎ ((r .tag ≡ t) × (r .cell ≡ x))) (some? (valueAtₛ t x h))
+      (λ k i. let w = is-some (valueAtₛ t x h) k in let q = value-at t x h (w .0) (w .1) in
       in-case i (λ e. inr (ap (λ (z : DRow). z .tag) e ∙ q .0, ap (λ (z : DRow). z .cell) e ∙ q .1)) (λ j. inl (there j)))
       (λ _ i. in-case i (λ e. inl (here e)) (λ j. up (replace-in l r j))))
       i
@@ -222,27 +222,27 @@ module _ (t x : ℕ) (v : Value) where
   unfolding replace
   in-replace [] r i n = absurd (in-nil i)
   in-replace (h ∷ l) r i n =
-      ite-elim (In r) (some? (valueAt t x h))
-      (λ k. let w = is-some (valueAt t x h) k in let q = value-at t x h (w .0) (w .1) in in-case i (λ e. absurd (n (ap (λ (z : DRow). z .tag) e ∙ q .0))) there)
+      ite-elim (In r) (some? (valueAtₛ t x h))
+      (λ k. let w = is-some (valueAtₛ t x h) k in let q = value-at t x h (w .0) (w .1) in in-case i (λ e. absurd (n (ap (λ (z : DRow). z .tag) e ∙ q .0))) there)
       (λ _. in-case i here (λ j. there (in-replace l r j n)))
 
-  replace-find : (d : List DRow) (u y : ℕ) → ((r : DRow) → r .tag ≡ t → r .cell ≡ x → valueAt u y r ≡ none) → find u y (replace t x v d) ≡ find u y d
-  unfolding replace find first
+  replace-find : (d : List DRow) (u y : ℕ) → ((r : DRow) → r .tag ≡ t → r .cell ≡ x → valueAtₛ u y r ≡ none) → findₛ u y (replace t x v d) ≡ findₛ u y d
+  unfolding replace findₛ first
   replace-find [] u y n = refl
   replace-find (h ∷ l) u y n =
-      ite-elim (λ L. first (valueAt u y) L ≡ first (valueAt u y) (h ∷ l)) (some? (valueAt t x h))
-      (λ k. let w = is-some (valueAt t x h) k in let q = value-at t x h (w .0) (w .1) in rw (n (newRow h) (q .0) (q .1), n h (q .0) (q .1)))
-      (λ _. ap (orNext (valueAt u y h)) (replace-find l u y n))
+      ite-elim (λ L. first (valueAtₛ u y) L ≡ first (valueAtₛ u y) (h ∷ l)) (some? (valueAtₛ t x h))
+      (λ k. let w = is-some (valueAtₛ t x h) k in let q = value-at t x h (w .0) (w .1) in rw (n (newRow h) (q .0) (q .1), n h (q .0) (q .1)))
+      (λ _. ap (orNext (valueAtₛ u y h)) (replace-find l u y n))
 
-  replace-this : (d : List DRow) → IsSome (find t x d) → find t x (replace t x v d) ≡ some v
-  unfolding replace find first
+  replace-this : (d : List DRow) → IsSome (findₛ t x d) → findₛ t x (replace t x v d) ≡ some v
+  unfolding replace findₛ first
   replace-this [] h = absurd h
   replace-this (h ∷ l) k =
-      by-cases (some? (valueAt t x h))
-      (λ q. let w = is-some (valueAt t x h) q in let z = value-at t x h (w .0) (w .1) in
-      rw (if-pos (some? (valueAt t x h)) q (newRow h ∷ l) (h ∷ replace t x v l), value-same t x (newRow h) (z .0) (z .1)))
-      (λ n. let e : valueAt t x h ≡ none = empty (valueAt t x h) n in
-      rw (if-neg (some? (valueAt t x h)) n (newRow h ∷ l) (h ∷ replace t x v l), e) (replace-this l (rw e at k)))
+      by-cases (some? (valueAtₛ t x h))
+      (λ q. let w = is-some (valueAtₛ t x h) q in let z = value-at t x h (w .0) (w .1) in
+      rw (if-pos (some? (valueAtₛ t x h)) q (newRow h ∷ l) (h ∷ replace t x v l), value-same t x (newRow h) (z .0) (z .1)))
+      (λ n. let e : valueAtₛ t x h ≡ none = empty (valueAtₛ t x h) n in
+      rw (if-neg (some? (valueAtₛ t x h)) n (newRow h ∷ l) (h ∷ replace t x v l), e) (replace-this l (rw e at k)))
     where
       empty : (o : Option Value) → (IsSome o → ⊥) → o ≡ none
       empty none n = refl
@@ -252,15 +252,15 @@ module _ (t x : ℕ) (v : Value) where
   unfolding replace
   replace-uniq [] u = tt
   replace-uniq (h ∷ l) u =
-      ite-elim Uniq (some? (valueAt t x h))
-      (λ k. let w = is-some (valueAt t x h) k in let q = value-at t x h (w .0) (w .1) in (λ r i p p′. u .0 r i p p′, u .1))
+      ite-elim Uniq (some? (valueAtₛ t x h))
+      (λ k. let w = is-some (valueAtₛ t x h) k in let q = value-at t x h (w .0) (w .1) in (λ r i p p′. u .0 r i p p′, u .1))
       (λ n. (λ r i p p′. other n r (replace-in l r i) p p′, replace-uniq l (u .1)))
     where
-      other : (IsSome (valueAt t x h) → ⊥) → (r : DRow) → In r l ⊎ ((r .tag ≡ t) × (r .cell ≡ x)) → r .tag ≡ h .tag → r .cell ≡ h .cell → ⊥
+      other : (IsSome (valueAtₛ t x h) → ⊥) → (r : DRow) → In r l ⊎ ((r .tag ≡ t) × (r .cell ≡ x)) → r .tag ≡ h .tag → r .cell ≡ h .cell → ⊥
       other n r (inl j) p p′ = u .0 r j p p′
       other n r (inr q) p p′ = n (rw (value-same t x h (sym p ∙ q .0) (sym p′ ∙ q .1)) tt)
 
-  pub write-replaced : (d : List DRow) → IsSome (find t x d) → Written t x v d (replace t x v d)
+  pub write-replaced : (d : List DRow) → IsSome (findₛ t x d) → Written t x v d (replace t x v d)
   write-replaced d k = record {
     this = replace-this d k;
     tags = λ u y n. replace-find d u y (λ r p q. value-tag u y r (λ z. n (sym z ∙ p)));

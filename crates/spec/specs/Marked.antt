@@ -14,20 +14,20 @@ use Rattle.spec.specs.Orderly.{orderly}
 -- ---- "after each committed row the marked cells are exactly those that it or a later one, numbered at most low, wrote"
 
 -- a committed row that is numbered at most low and wrote the cell
-unfoldable pub serves : ℕ → List Row → ℕ → Row → Bool
-serves low ds x c = if leb (commitNumber c) low then wrote ds (commitTag c) x else false
+unfoldable pub marksCell : ℕ → List Row → ℕ → Row → Bool
+marksCell low ds x c = if leb (commitNumber c) low then wrote ds (commitTag c) x else false
 
 -- of the committed rows cs, one numbered at most low wrote the cell
-unfoldable pub served : ℕ → List Row → List Row → ℕ → Bool
-served low ds cs x = any (serves low ds x) cs
+unfoldable pub marked : ℕ → List Row → List Row → ℕ → Bool
+marked low ds cs x = any (marksCell low ds x) cs
 
 -- The marks after committed row j, where m committed rows in c are gone through from the last to the first: a cell's mark is 0 while it is not
 -- marked, and else one more than the number of the row that marked it. `so-far`: the marked cells are exactly those that row j or a later one,
 -- numbered at most low, wrote. `after-each`: so it was after each row k from j on; the cells that were marked then are those with a mark above k.
 pub record Marks (low n m : ℕ) (s c : List ℕ) (j : ℕ) (marks : List ℕ) : Type 0 where
   pub size : length marks ≡ 1024
-  pub so-far : (x : ℕ) → x < 1024 → ltb 0 (getD marks x 0) ≡ served low (rowsIn 24 n s) (rowsFrom 8 m j c) x
-  pub after-each : (k x : ℕ) → j ≤ k → x < 1024 → ltb k (getD marks x 0) ≡ served low (rowsIn 24 n s) (rowsFrom 8 m k c) x
+  pub so-far : (x : ℕ) → x < 1024 → ltb 0 (getD marks x 0) ≡ marked low (rowsIn 24 n s) (rowsFrom 8 m j c) x
+  pub after-each : (k x : ℕ) → j ≤ k → x < 1024 → ltb k (getD marks x 0) ≡ marked low (rowsIn 24 n s) (rowsFrom 8 m k c) x
 
 -- So it is on all orderly bytes: the marks that a trim leaves in the end show the marked cells after each committed row.
 pub record Worked (low n m : ℕ) (s c marks : List ℕ) : Type 0 where
