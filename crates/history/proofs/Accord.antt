@@ -22,8 +22,8 @@ use Rattle.spec.specs.Calls.{begun, begin, read, replaced, added, write, remove
 use Rattle.spec.specs.Steps.{queued, struck, others, goOn, enter, takeRequest, listRequests, looked, lookRequests, check, takeCommit, listCommits, lookCommits, addCommit, leaveCommits, leaveRequests, finished, advance}
 use Rattle.spec.specs.declared.Progress.the-variants.{Conflict}
 use Rattle.spec.specs.Answers.{Answered}
-use Rattle.spec.specs.Bytes.{decode, storeOf, encode, known, fits, onBytes, accepts, setUp}
-use Rattle.spec.specs.Run.{Call, Begin, Read, Write, Advance, Abandon, perform, Memory, memoryOf, step}
+use Rattle.spec.specs.Bytes.{decode, storeOf, encode, known, fits, onBytes, accepts, setUp, Memory}
+use Rattle.spec.specs.Run.{Call, Begin, Read, Write, Advance, Abandon, perform, step}
 use Rattle.spec.specs.Table.{Open, Table, blank, override, onStage, update}
 use Rattle.spec.specs.Right.{observed}
 use Rattle.history.specs.Afterwards.{afterRun, tableAfter}
@@ -46,10 +46,10 @@ Decided k m qs =
 
 pub decided : (k : ℕ) (m : Memory) (qs : List Call) → isOver (fate k m qs) ≡ true → Decided k m qs
 decided k m [] h = absurd (false≢true h)
-decided k m (q ∷ qs) h = go (fateBy k q (observed q m)) refl h (decided k (memoryOf (step q m)) qs)
+decided k m (q ∷ qs) h = go (fateBy k q (observed q m)) refl h (decided k (step q m .memory) qs)
   where
     next : Memory
-    next = memoryOf (step q m)
+    next = step q m .memory
 
     by : {f : Fate} → fateBy k q (observed q m) ≡ f → (l : List Call) → fate k m (q ∷ l) ≡ earlier f (fate k next l)
     by e l = ap (λ (f : Fate). earlier f (fate k next l)) e
@@ -72,7 +72,7 @@ longer m t qs more r k q = go qs m (r k q)
     go : (l : List Call) (m : Memory) → served k m l ≡ true → served k m (l ++ more) ≡ true
     go [] m e = absurd (false≢true e)
     go (c ∷ l) m e =
-        let n : Memory = memoryOf (step c m) in
+        let n : Memory = step c m .memory in
         one-or (serves k c (observed c m)) (served k n l) (served k n (l ++ more)) (go l n) e
 
 -- ---- the run
@@ -81,7 +81,7 @@ abbrev value : List ℕ
 value = replicate 16 0
 
 abbrev fresh : Memory
-fresh = memoryOf (setUp (replicate 72 0) (replicate 24 0) 1 0)
+fresh = setUp (replicate 72 0) (replicate 24 0) 1 0 .memory
 
 abbrev calls : List Call
 calls = Begin 0 ∷ Begin 1 ∷ Begin 2 ∷ Write 0 7 value ∷ Write 1 8 value ∷ Advance 0 ∷ Advance 1 ∷ []
@@ -119,7 +119,7 @@ unfolding
     cleared closed empty begun begin read replaced added write removed abandon
     queued struck others goOn enter takeRequest listRequests looked lookRequests check takeCommit listCommits lookCommits addCommit
     leaveCommits leaveRequests finished advance
-    decode storeOf encode known fits onBytes accepts setUp perform
+    decode storeOf encode known fits onBytes accepts setUp
     blank override onStage update
 computed = record {
   twelve = refl;

@@ -16,10 +16,10 @@ use Rattle.spec.specs.Rows.{Row, rowsIn}
 use Rattle.spec.specs.Answers.{Answer, Answered, Refused, unfit}
 use Rattle.spec.specs.Image.{Image, empty, numberOf, stageOf, commitNumberOf}
 use Rattle.spec.specs.Calls.{top, free}
-use Rattle.spec.specs.Bytes.{After, fits, limitOf, accepts, setUp}
-use Rattle.spec.specs.Run.{Call, Begin, Read, Write, Advance, Abandon, Trim, Free, Result, perform, Memory, memoryOf, step}
+use Rattle.spec.specs.Bytes.{After, fits, limitOf, accepts, setUp, Memory}
+use Rattle.spec.specs.Run.{Call, Begin, Read, Write, Advance, Abandon, Trim, Free, Result, perform, step}
 use Rattle.spec.specs.Table.{Table, blank, Observed, observeAnswer, update}
-use Rattle.spec.specs.Right.{Bounds, boundsOf, Right, numberAfter, observed, RightRun, AllUnfit, AllFit}
+use Rattle.spec.specs.Right.{Bounds, boundsOf, Right, numberAfter, observed, RightRun, AllUnfit, AllFit, Fit}
 use Rattle.history.proofs.Wellformed.{Wellformed, perform-kept, empty-fine}
 use Rattle.spec.proofs.Ends.{accepted}
 use Rattle.history.proofs.Bridge.{encoded, fits-whole, crossed, used-rows, firstImage, set-up-whole, first-fine, unused, refused-memory, refused-call}
@@ -106,7 +106,7 @@ module _ {bounds : Bounds} {w : ℕ} {i : Image} {p : Plain} (g : Reached bounds
   fed = feeds bounds (view i .W) p q (told-by q i) (m.freeₛ (view (perform q i .image))) right-own
 
 free-answer : (i : Image) → perform Free i .answer ≡ Answered (m.freeₛ (view i))
-unfolding perform free
+unfolding free
 free-answer i = ap (λ (n : ℕ). Answered n) (sym (free-at i))
 
 -- ---- lists of calls on the record and the buffers
@@ -120,13 +120,13 @@ module _ (i : Image) (h : Wellformed i) (q : Call) where
 
   pub same-told : observed q (encoded i) ≡ told-by q i
   same-told =
-      ap (λ (a : After (Result q)). observeAnswer q (rowsIn 24 (a .store .used) (a .dataBytes)) (a .answer)) (crossed i h q)
+      ap (λ (a : After (Result q)). observeAnswer q (rowsIn 24 (a .memory .store .used) (a .memory .dataBytes)) (a .answer)) (crossed i h q)
       ∙ ap (λ (ds : List Row). observeAnswer q ds (perform q i .answer)) (used-rows next next-fine)
 
-  pub same-memory : memoryOf (step q (encoded i)) ≡ encoded next
-  same-memory = ap memoryOf (crossed i h q)
+  pub same-memory : step q (encoded i) .memory ≡ encoded next
+  same-memory = ap (λ (a : After (Result q)). a .memory) (crossed i h q)
 
-  free-next : step Free (memoryOf (step q (encoded i))) .answer ≡ Answered (m.freeₛ (view next))
+  free-next : step Free (step q (encoded i) .memory) .answer ≡ Answered (m.freeₛ (view next))
   free-next =
       ap (λ (x : Memory). step Free x .answer) same-memory
       ∙ ap (λ (a : After ℕ). a .answer) (crossed next next-fine Free)
@@ -139,9 +139,9 @@ all-right {bounds} (q ∷ qs) w i p g =
     let e = same-told i h q in
     let j : Image = perform q i .image in
     let a : Answer (Observed q) = told-by q i in (
-      subst (λ (x : Answer (Observed q)). Right bounds w (erase p) q x (step Free (memoryOf (step q (encoded i))) .answer)) (sym e)
+      subst (λ (x : Answer (Observed q)). Right bounds w (erase p) q x (step Free (step q (encoded i) .memory) .answer)) (sym e)
           (subst (λ (x : Answer ℕ). Right bounds w (erase p) q a x) (sym (free-next i h q)) (right-now g q)),
-      subst (λ (x : Answer (Observed q)). RightRun bounds (numberAfter q x w) (update q x (erase p)) (memoryOf (step q (encoded i))) qs) (sym e)
+      subst (λ (x : Answer (Observed q)). RightRun bounds (numberAfter q x w) (update q x (erase p)) (step q (encoded i) .memory) qs) (sym e)
           (subst (λ (x : Memory). RightRun bounds (numberAfter q a w) (update q a (erase p)) x qs) (sym (same-memory i h q))
           (subst (λ (x : Table). RightRun bounds (numberAfter q a w) x (encoded j) qs) (sym (fed g q)) (all-right qs (numberAfter q a w) j (updateₚ p q a) (good-next g q)))),
     )
@@ -187,16 +187,16 @@ unfolding update
 refused-told q = refl
 
 pub refused-tells : (d c : List ℕ) (q : Call) → observed q (unused d c) ≡ Refused unfit
-refused-tells d c q = ap (λ (a : After (Result q)). observeAnswer q (rowsIn 24 (a .store .used) (a .dataBytes)) (a .answer)) (refused-call d c q)
+refused-tells d c q = ap (λ (a : After (Result q)). observeAnswer q (rowsIn 24 (a .memory .store .used) (a .memory .dataBytes)) (a .answer)) (refused-call d c q)
 
 refused-all : (n : Bounds) (w : ℕ) (d c : List ℕ) (qs : List Call) → RightRun n w blank (unused d c) qs
 refused-all n w d c [] = tt
 refused-all n w d c (q ∷ qs) =
     let e = refused-call d c q in
     let f = refused-tells d c q in (
-      subst (λ (x : Answer (Observed q)). Right n w blank q x (step Free (memoryOf (step q (unused d c))) .answer)) (sym f) (refused-right n w q _),
-      subst (λ (x : Answer (Observed q)). RightRun n (numberAfter q x w) (update q x blank) (memoryOf (step q (unused d c))) qs) (sym f)
-          (subst (λ (x : Memory). RightRun n (numberAfter q (Refused unfit) w) (update q (Refused unfit) blank) x qs) (sym (ap memoryOf e))
+      subst (λ (x : Answer (Observed q)). Right n w blank q x (step Free (step q (unused d c) .memory) .answer)) (sym f) (refused-right n w q _),
+      subst (λ (x : Answer (Observed q)). RightRun n (numberAfter q x w) (update q x blank) (step q (unused d c) .memory) qs) (sym f)
+          (subst (λ (x : Memory). RightRun n (numberAfter q (Refused unfit) w) (update q (Refused unfit) blank) x qs) (sym (ap (λ (x : After (Result q)). x .memory) e))
           (subst (λ (x : ℕ). RightRun n x (update q (Refused unfit) blank) (unused d c) qs) (sym (refused-number q w))
           (subst (λ (x : Table). RightRun n w x (unused d c) qs) (sym (refused-told q)) (refused-all n w d c qs)))),
     )
@@ -205,10 +205,10 @@ refused-all n w d c (q ∷ qs) =
 
 -- Demand 3: for every set-up, refused or not, and every list of calls, each answer is right by the plain table that is told the calls and
 -- their answers. w is the first W, a number of 32 bits by its type.
-pub demand3 : (d c : List ℕ) (w l : ℕ) → w ≤ 4294967295 → (qs : List Call) → RightRun (boundsOf d l) 0 blank (memoryOf (setUp d c w l)) qs
+pub demand3 : (d c : List ℕ) (w l : ℕ) → w ≤ 4294967295 → (qs : List Call) → RightRun (boundsOf d l) 0 blank (setUp d c w l .memory) qs
 demand3 d c w l h qs = go (accepts (length d) (length c) w l) refl
   where
-    go : (b : Bool) → accepts (length d) (length c) w l ≡ b → RightRun (boundsOf d l) 0 blank (memoryOf (setUp d c w l)) qs
+    go : (b : Bool) → accepts (length d) (length c) w l ≡ b → RightRun (boundsOf d l) 0 blank (setUp d c w l .memory) qs
     go true e =
         let a = accepted (length d) (length c) w l e in
         subst (λ (x : Memory). RightRun (boundsOf d l) 0 blank x qs) (sym (set-up-whole d c w l e))
@@ -222,9 +222,9 @@ unfit-all : (d c : List ℕ) (qs : List Call) → AllUnfit (unused d c) qs
 unfit-all d c [] = tt
 unfit-all d c (q ∷ qs) =
     let e = refused-call d c q in
-    (ap (λ (x : After (Result q)). x .answer) e, (ap memoryOf e, unfit-all d c qs))
+    (ap (λ (x : After (Result q)). x .answer) e, (ap (λ (x : After (Result q)). x .memory) e, unfit-all d c qs))
 
-pub all-unfit : (d c : List ℕ) (w l : ℕ) → accepts (length d) (length c) w l ≡ false → (qs : List Call) → AllUnfit (memoryOf (setUp d c w l)) qs
+pub all-unfit : (d c : List ℕ) (w l : ℕ) → accepts (length d) (length c) w l ≡ false → (qs : List Call) → AllUnfit (setUp d c w l .memory) qs
 all-unfit d c w l e qs = subst (λ (m : Memory). AllUnfit m qs) (sym (refused-memory d c w l e)) (unfit-all d c qs)
 
 -- After one that is not refused the store is fit after each call, whatever the calls.
@@ -233,9 +233,9 @@ fit-all [] i h = tt
 fit-all (q ∷ qs) i h =
     let e = crossed i h q in
     let k = perform-kept q i h .fine in (
-      subst (λ (x : After (Result q)). fits (x .store) (length (x .dataBytes)) (length (x .commitBytes)) ≡ true) (sym e) (fits-whole (perform q i .image) k),
-      subst (λ (x : After (Result q)). AllFit (memoryOf x) qs) (sym e) (fit-all qs (perform q i .image) k),
+      subst (λ (x : After (Result q)). Fit (x .memory)) (sym e) (fits-whole (perform q i .image) k),
+      subst (λ (x : After (Result q)). AllFit (x .memory) qs) (sym e) (fit-all qs (perform q i .image) k),
     )
 
-pub all-fit : (d c : List ℕ) (w l : ℕ) → accepts (length d) (length c) w l ≡ true → (qs : List Call) → AllFit (memoryOf (setUp d c w l)) qs
+pub all-fit : (d c : List ℕ) (w l : ℕ) → accepts (length d) (length c) w l ≡ true → (qs : List Call) → AllFit (setUp d c w l .memory) qs
 all-fit d c w l e qs = subst (λ (m : Memory). AllFit m qs) (sym (set-up-whole d c w l e)) (fit-all qs (firstImage d w l) (first-fine d c w l e))

@@ -14,7 +14,8 @@ use lib.Dec.{eqb}
 use Rattle.spec.specs.declared.Progress.{Progress}
 use Rattle.spec.specs.declared.Progress.the-variants.{Stage, Waiting, Conflict, Done}
 use Rattle.spec.specs.Answers.{Answer, Answered, Refused}
-use Rattle.spec.specs.Run.{Call, Begin, Read, Write, Advance, Abandon, Trim, Free, Memory, memoryOf, step}
+use Rattle.spec.specs.Run.{Call, Begin, Read, Write, Advance, Abandon, Trim, Free, step}
+use Rattle.spec.specs.Bytes.{Memory}
 use Rattle.spec.specs.Table.{Value, Commit, Open, Table, override, withWrites, atStage, onStage, Observed, update}
 use Rattle.spec.specs.Right.{Bounds, Right, observed, RightRun}
 use Rattle.history.proofs.Lists.{none-some, same-some}
@@ -110,7 +111,7 @@ module _ (W : ℕ → Type 0) (P : Progress → Type 0) (k : ℕ) (Q : Open → 
         → observed p (afterRun before m) ≡ Answered a → Undisturbed W P k (afterRun (before ++ (p ∷ [])) m) between
         → StillRight n q (observed q (afterRun (before ++ (p ∷ between)) m))
     two-calls [] n w t m r e c =
-        let next : Answer ℕ = step Free (memoryOf (step p m)) .answer in
+        let next : Answer ℕ = step Free (step p m .memory) .answer in
         up-to q between rest n _ _ _ (r .1) c
         (subst (λ (z : Answer (Observed p)). HoldsIn k Q (update p z t)) (sym e) (first n w t next (subst (λ (z : Answer (Observed p)). Right n w t p z next) e (r .0))))
     two-calls (b ∷ before) n w t m r e c = two-calls before n _ _ _ (r .1) e c

@@ -13,7 +13,8 @@ use lib.Dec.{eqb}
 use Rattle.spec.specs.Choice.{if_then_else_}
 use Rattle.spec.specs.declared.Progress.the-variants.{Stage, Waiting, Conflict, Done}
 use Rattle.spec.specs.Answers.{Answer, Answered, Refused}
-use Rattle.spec.specs.Run.{Call, Begin, Read, Write, Advance, Abandon, Trim, Free, Memory}
+use Rattle.spec.specs.Run.{Call, Begin, Read, Write, Advance, Abandon, Trim, Free}
+use Rattle.spec.specs.Bytes.{Memory}
 use Rattle.spec.specs.Table.{Value, Values, has, Commit, Open, Table, blank, orElse, onCommit, onStage, Observed, update}
 use Rattle.spec.specs.Right.{Bounds, lastNumber, RightProgress, Right, observed, RightRun}
 use Rattle.history.proofs.Lists.{in-nil, in-left, in-right, append-case, in-one}

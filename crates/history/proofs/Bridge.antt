@@ -15,8 +15,8 @@ use Rattle.spec.specs.Rows.{rowsIn}
 use Rattle.spec.specs.Answers.{Answer, Refused, unfit}
 use Rattle.spec.specs.Image.{Image, empty}
 use Rattle.spec.specs.Calls.{Outcome}
-use Rattle.spec.specs.Bytes.{After, afterOf, decode, storeOf, encode, known, fits, onBytes, limitOf, accepts, setUp}
-use Rattle.spec.specs.Run.{Call, perform, Memory, memoryOf, step}
+use Rattle.spec.specs.Bytes.{After, afterOf, decode, storeOf, encode, known, fits, onBytes, limitOf, accepts, setUp, Memory}
+use Rattle.spec.specs.Run.{Call, perform, step}
 use Rattle.spec.proofs.Ends.{accepted}
 use Rattle.history.proofs.Spread.{spread, length-spread, rows-spread, laid-spread}
 use Rattle.history.proofs.Wellformed.{Wellformed, Kept, perform-kept, empty-fine}
@@ -91,7 +91,7 @@ abbrev pub firstImage : List ℕ → ℕ → ℕ → Image
 firstImage d w l = empty (length d / 24) (limitOf l) (w - 1)
 
 module _ (d c : List ℕ) (w l : ℕ) (e : accepts (length d) (length c) w l ≡ true) where
-  pub set-up-whole : memoryOf (setUp d c w l) ≡ encoded (firstImage d w l)
+  pub set-up-whole : setUp d c w l .memory ≡ encoded (firstImage d w l)
   unfolding setUp encoded empty storeOf spread flatten
   set-up-whole =
       let a = accepted (length d) (length c) w l e in
@@ -104,7 +104,7 @@ module _ (d c : List ℕ) (w l : ℕ) (e : accepts (length d) (length c) w l ≡
 abbrev pub unused : List ℕ → List ℕ → Memory
 unused d c = record { store = storeOf (empty 0 0 0); dataBytes = d; commitBytes = c }
 
-pub refused-memory : (d c : List ℕ) (w l : ℕ) → accepts (length d) (length c) w l ≡ false → memoryOf (setUp d c w l) ≡ unused d c
+pub refused-memory : (d c : List ℕ) (w l : ℕ) → accepts (length d) (length c) w l ≡ false → setUp d c w l .memory ≡ unused d c
 unfolding setUp
 refused-memory d c w l e = rw e
 

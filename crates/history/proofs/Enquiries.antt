@@ -16,7 +16,8 @@ use Rattle.spec.specs.declared.Begun.{Begun}
 use Rattle.spec.specs.declared.Progress.{Progress}
 use Rattle.spec.specs.declared.Progress.the-variants.{Stage, Waiting, Conflict, Done}
 use Rattle.spec.specs.Answers.{Answer, Answered, Refused}
-use Rattle.spec.specs.Run.{Call, Begin, Advance, Memory}
+use Rattle.spec.specs.Run.{Call, Begin, Advance}
+use Rattle.spec.specs.Bytes.{Memory}
 use Rattle.spec.specs.Table.{Commit, Open, Table, newlyOpen, update}
 use Rattle.spec.specs.Right.{Bounds, lastNumber, Wrote, RightBegin, RightProgress, RightAdvance, RightRun}
 use Rattle.history.proofs.Lists.{none-some, same-some}

@@ -14,7 +14,8 @@ use lib.Dec.{eqb}
 use Rattle.spec.specs.declared.Progress.the-variants.{Stage, Waiting, Conflict, Done}
 use Rattle.spec.specs.Answers.{Answer, Answered, Refused}
 use Rattle.spec.specs.Calls.{cells}
-use Rattle.spec.specs.Run.{Call, Begin, Read, Write, Advance, Abandon, Trim, Free, Memory}
+use Rattle.spec.specs.Run.{Call, Begin, Read, Write, Advance, Abandon, Trim, Free}
+use Rattle.spec.specs.Bytes.{Memory}
 use Rattle.spec.specs.Table.{Value, Values, has, Open, Table, blank, unwritten, override, withClient, withWrites, atStage, newlyOpen, onStage, Observed, update}
 use Rattle.spec.specs.Right.{Bounds, WriteAllowed, Right, RightRun}
 use Rattle.history.proofs.Lists.{none-some, same-some}

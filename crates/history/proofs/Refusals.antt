@@ -23,8 +23,8 @@ use Rattle.spec.specs.Image.{Image, numberOf, snapshotOf, stageOf, isOpen}
 use Rattle.spec.specs.Calls.{Outcome, replies, refuse, cells, top, free, begun, begin, read, replaced, added, stored, write, abandon, trimmedTo, trim}
 use Rattle.spec.specs.Steps.{goOn, finished, enter, takeRequest, listRequests, looked, lookRequests, checked, check, takeCommit, listCommits, lookCommits, addCommit, leaveCommits, leaveRequests, steps, noStep, advance}
 use Rattle.spec.specs.Answers.{Answer, Refused}
-use Rattle.spec.specs.Bytes.{decode, After, encode, fits, onBytes}
-use Rattle.spec.specs.Run.{Call, Begin, Read, Write, Advance, Abandon, Trim, Free, Result, refusals, Listed, perform, Memory, memoryOf, step}
+use Rattle.spec.specs.Bytes.{decode, After, encode, fits, onBytes, Memory}
+use Rattle.spec.specs.Run.{Call, Begin, Read, Write, Advance, Abandon, Trim, Free, Result, refusals, Listed, perform, step}
 use Rattle.spec.specs.Right.{AllListed}
 use Rattle.history.proofs.Lists.{in-nil, in-case}
 use Rattle.history.proofs.Wellformed.{All, each-at}
@@ -190,7 +190,7 @@ advance-listed k i =
 -- ---- every call, on an image and on any record and bytes
 
 perform-listed : (q : Call) (i : Image) → Lists (refusals q) (perform q i)
-unfolding perform free trim trimmedTo
+unfolding free trim trimmedTo
 perform-listed (Begin k) i = begin-listed k i
 perform-listed (Read k x) i = read-listed k x i
 perform-listed (Write k x v) i = write-listed k x v i
@@ -221,7 +221,7 @@ refused-by-number q m =
 
 pub all-listed : (qs : List Call) (m : Memory) → AllListed m qs
 all-listed [] m = tt
-all-listed (q ∷ qs) m = (refused-by-number q m, all-listed qs (memoryOf (step q m)))
+all-listed (q ∷ qs) m = (refused-by-number q m, all-listed qs (step q m .memory))
 
 -- ---- document 02, 2: "Refusal 11 never occurs any more": on no record and no bytes
 

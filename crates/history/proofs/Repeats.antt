@@ -11,7 +11,8 @@ use mathlib.Core.Option.{Option, some}
 use native.Mathlib.Omega.{arith}
 use Rattle.spec.specs.Answers.{Answer, Answered, Refused}
 use Rattle.spec.specs.Calls.{cells}
-use Rattle.spec.specs.Run.{Call, Read, Memory}
+use Rattle.spec.specs.Run.{Call, Read}
+use Rattle.spec.specs.Bytes.{Memory}
 use Rattle.spec.specs.Table.{Value, Commit, Open, Table, orElse, update}
 use Rattle.spec.specs.Right.{Bounds, RightRead, RightRun}
 use Rattle.history.proofs.Lists.{same-some}

@@ -13,8 +13,8 @@ use lib.ListN.{length}
 use Rattle.spec.specs.Set.{clients}
 use Rattle.spec.specs.Answers.{Answer}
 use Rattle.spec.specs.Image.{Image, empty}
-use Rattle.spec.specs.Bytes.{limitOf, accepts, setUp}
-use Rattle.spec.specs.Run.{Call, Advance, Memory, memoryOf, step}
+use Rattle.spec.specs.Bytes.{After, limitOf, accepts, setUp, Memory}
+use Rattle.spec.specs.Run.{Call, Advance, Result, step}
 use Rattle.spec.specs.Table.{Open, Table, blank, Observed, update}
 use Rattle.spec.specs.Right.{Bounds, observed}
 use Rattle.history.proofs.Lists.{none-some, same-some}
@@ -80,14 +80,14 @@ module _ {n : ℕ} where
   fate-as : (b : ℕ) (s : Image) (l : List Call) → Grown n s → AllBelow n l → fate b (encoded s) l ≡ fated b s l
   fate-as b s [] g o = refl
   fate-as b s (c ∷ l) g o =
-      ap (λ (x : Answer (Observed c)). earlier (fateBy b c x) (fate b (memoryOf (step c (encoded s))) l)) (same-told s (g .good .fine) c)
+      ap (λ (x : Answer (Observed c)). earlier (fateBy b c x) (fate b (step c (encoded s) .memory) l)) (same-told s (g .good .fine) c)
       ∙ ap (λ (x : Memory). earlier (fateBy b c (told-by c s)) (fate b x l)) (same-memory s (g .good .fine) c)
       ∙ ap (earlier (fateBy b c (told-by c s))) (fate-as b (next s c) l (grows s c g (o .0)) (o .1))
 
   served-as : (b : ℕ) (s : Image) (l : List Call) → Grown n s → AllBelow n l → served b (encoded s) l ≡ meets b s l
   served-as b s [] g o = refl
   served-as b s (c ∷ l) g o =
-      ap (λ (x : Answer (Observed c)). serves b c x || served b (memoryOf (step c (encoded s))) l) (same-told s (g .good .fine) c)
+      ap (λ (x : Answer (Observed c)). serves b c x || served b (step c (encoded s) .memory) l) (same-told s (g .good .fine) c)
       ∙ ap (λ (x : Memory). serves b c (told-by c s) || served b x l) (same-memory s (g .good .fine) c)
       ∙ ap (λ (y : Bool). serves b c (told-by c s) || y) (served-as b (next s c) l (grows s c g (o .0)) (o .1))
 
@@ -158,7 +158,7 @@ refused-table : (d c : List ℕ) (l : List Call) → tableAfter l (unused d c) b
 unfolding update
 refused-table d c [] = refl
 refused-table d c (q ∷ l) =
-    ap (λ (x : Memory). tableAfter l x (update q (observed q (unused d c)) blank)) (ap memoryOf (refused-call d c q))
+    ap (λ (x : Memory). tableAfter l x (update q (observed q (unused d c)) blank)) (ap (λ (a : After (Result q)). a .memory) (refused-call d c q))
     ∙ ap (λ (x : Answer (Observed q)). tableAfter l (unused d c) (update q x blank)) (refused-tells d c q)
     ∙ refused-table d c l
 
@@ -169,12 +169,12 @@ nobody-queued t k e q = none-some refl (ap (λ (x : Table). x .clients k) (sym e
 -- what holds of record, buffers and table after the calls qs, if it holds of every grown image, and where nobody is at any stage
 module _ (d c : List ℕ) (w l : ℕ) (lw : w ≤ 4294967295) (qs : List Call) (n : ℕ) (below : AllBelow n qs) (X : Memory → Table → Type 0)
     (grown : (s : Image) (g : Grown n s) → X (encoded s) (erase (g .table))) (idle : (m : Memory) (t : Table) → ((k : ℕ) → Queued t k → ⊥) → X m t) where
-  from-set-up : X (afterRun qs (memoryOf (setUp d c w l))) (tableAfter qs (memoryOf (setUp d c w l)) blank)
+  from-set-up : X (afterRun qs (setUp d c w l .memory)) (tableAfter qs (setUp d c w l .memory) blank)
   unfolding start
   from-set-up = go (accepts (length d) (length c) w l) refl
     where
       go : (b : Bool) → accepts (length d) (length c) w l ≡ b
-          → X (afterRun qs (memoryOf (setUp d c w l))) (tableAfter qs (memoryOf (setUp d c w l)) blank)
+          → X (afterRun qs (setUp d c w l .memory)) (tableAfter qs (setUp d c w l .memory) blank)
       go true e =
           let a = accepted (length d) (length c) w l e in
           let s : Image = bridge.firstImage d w l in
@@ -188,12 +188,12 @@ module _ (d c : List ℕ) (w l : ℕ) (lw : w ≤ 4294967295) (qs : List Call) (
 -- ---- the three claims
 
 module _ (d c : List ℕ) (w l : ℕ) (lw : w ≤ 4294967295) (qs : List Call) where
-  pub nobody-waits : NobodyWaits (memoryOf (setUp d c w l)) qs
+  pub nobody-waits : NobodyWaits (setUp d c w l .memory) qs
   nobody-waits n below rounds =
       from-set-up d c w l lw qs n below (λ m t. AllBelow n (flatten rounds) → ClosedWithin (roundLimit n) m t rounds)
       (λ s g. closed-within s g rounds) (λ m t h below rs long k q. absurd (h k q))
 
-  pub whoever-calls : WhoeverCalls (memoryOf (setUp d c w l)) qs
+  pub whoever-calls : WhoeverCalls (setUp d c w l .memory) qs
   whoever-calls rounds = nobody-waits clients (all-below qs) rounds (all-below (flatten rounds))
     where
       -- every client is below `clients`
@@ -201,7 +201,7 @@ module _ (d c : List ℕ) (w l : ℕ) (lw : w ≤ 4294967295) (qs : List Call) w
       all-below [] = tt
       all-below (q ∷ l) = (λ k e h. h, all-below l)
 
-  pub rounds-exist : RoundsExist (memoryOf (setUp d c w l)) qs
+  pub rounds-exist : RoundsExist (setUp d c w l .memory) qs
   rounds-exist n below = (
     turns-below n n (omega arith),
     from-set-up d c w l lw qs n below (λ m t. Round m t (inTurn n))
@@ -214,7 +214,7 @@ module _ (d c : List ℕ) (w l : ℕ) (lw : w ≤ 4294967295) (qs : List Call) w
 
       own-turn : (n k : ℕ) (x : Memory) → n ≡ k → served k x (inTurn (suc n)) ≡ true
       own-turn n k x e =
-          ap (λ (y : Bool). (y || isOver (fateBy k (Advance n) (observed (Advance n) x))) || served k (memoryOf (step (Advance n) x)) (inTurn n))
+          ap (λ (y : Bool). (y || isOver (fateBy k (Advance n) (observed (Advance n) x))) || served k (step (Advance n) x .memory) (inTurn n))
           (eq-eqb n k e)
 
       has-turn : (n k : ℕ) (x : Memory) → k < n → served k x (inTurn n) ≡ true

@@ -16,7 +16,6 @@ use Rattle.history.proofs.Trimming.{trim-does}
 use Rattle.history.proofs.Advancing.{Ready, advance-does}
 
 pub perform-does : (q : Call) (i : Image) → Ready i → i .counters .issued ≤ top → Simulates i q (perform q i)
-unfolding perform
 perform-does (Begin k) i h w = begin-does i k (h .fine) w
 perform-does (Read k x) i h w = read-does i k x (h .fine)
 perform-does (Write k x v) i h w = write-does i k x v (h .fine) (h .numbers k) (h .inside)

@@ -377,7 +377,6 @@ advance-kept k i h =
 -- ---- every call
 
 pub perform-kept : (q : Call) (i : Image) → Wellformed i → Kept i (perform q i)
-unfolding perform
 perform-kept (Begin k) i h = begin-kept i h k
 perform-kept (Read k x) i h = read-kept i h k x
 perform-kept (Write k x v) i h = write-kept i h k x v

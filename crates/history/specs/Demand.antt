@@ -13,8 +13,8 @@ use Rattle.spec.specs.declared.Progress.{Progress}
 use Rattle.spec.specs.declared.Progress.the-variants.{Stage, Waiting, Conflict, Done}
 use Rattle.spec.specs.Answers.{Answered}
 use Rattle.spec.specs.Calls.{cells}
-use Rattle.spec.specs.Bytes.{limitOf, accepts, setUp}
-use Rattle.spec.specs.Run.{Call, Begin, Read, Write, Advance, Abandon, Trim, Free, Memory, memoryOf, step}
+use Rattle.spec.specs.Bytes.{limitOf, accepts, setUp, Memory}
+use Rattle.spec.specs.Run.{Call, Begin, Read, Write, Advance, Abandon, Trim, Free, step}
 use Rattle.spec.specs.Table.{Value, Values, has, Commit, Open, Table, blank, Observed}
 use Rattle.spec.specs.Right.{boundsOf, valued, observed, RightRun, AllListed, AllUnfit, AllFit}
 use Rattle.history.specs.Afterwards.{afterRun, tableAfter}
@@ -76,7 +76,7 @@ Spares W P k Free a = Unit {0}
 -- every answered call of the list is such a call
 abbrev pub Undisturbed : (ℕ → Type 0) → (Progress → Type 0) → ℕ → Memory → List Call → Type 0
 Undisturbed W P k m [] = Unit {0}
-Undisturbed W P k m (q ∷ qs) = ((a : Observed q) → observed q m ≡ Answered a → Spares W P k q a) × Undisturbed W P k (memoryOf (step q m)) qs
+Undisturbed W P k m (q ∷ qs) = ((a : Observed q) → observed q m ≡ Answered a → Spares W P k q a) × Undisturbed W P k (step q m .memory) qs
 
 -- ---- reads of one transaction
 
@@ -126,33 +126,33 @@ Enquiry m qs =
 pub record Demand3 (d c : List ℕ) (w l : ℕ) (qs : List Call) : Type 0 where
   -- every answer is right by the plain table that was told the calls and answers before it: `Right` says what that is for each call, beside
   -- document 01's sentences, from "the snapshot that Begin answers is the last of them" to the free figure "after an answered Trim"
-  pub right : RightRun (boundsOf d l) 0 blank (memoryOf (setUp d c w l)) qs
+  pub right : RightRun (boundsOf d l) 0 blank (setUp d c w l .memory) qs
   -- "Numbers in the book rise"
-  pub rising : Rising (tableAfter qs (memoryOf (setUp d c w l)) blank .book)
+  pub rising : Rising (tableAfter qs (setUp d c w l .memory) blank .book)
   -- "the cells with a value in the table: those are the cells ever committed"
-  pub valued : (x : ℕ) → Valued x (tableAfter qs (memoryOf (setUp d c w l)) blank .values) (tableAfter qs (memoryOf (setUp d c w l)) blank .book)
+  pub valued : (x : ℕ) → Valued x (tableAfter qs (setUp d c w l .memory) blank .values) (tableAfter qs (setUp d c w l .memory) blank .book)
   -- "repeated reads need no read set": what a client reads in a cell stays the same until its transaction ends, its own writes there apart;
   -- through all stages of its commit, as document 02, 1 asks: "Reads during a commit obey the same rule of one moment as earlier reads"
-  pub steady : Steady (memoryOf (setUp d c w l)) qs
+  pub steady : Steady (setUp d c w l .memory) qs
   -- document 02, 1: "A screen box that also saves its layout goes blank while its commit waits. Read now answers at stages 1 to 11": it reads on,
   -- whatever it waits for and whatever the others do
-  pub unbroken : Unbroken (memoryOf (setUp d c w l)) qs
+  pub unbroken : Unbroken (setUp d c w l .memory) qs
   -- document 02, 2: "Advance at stage 0 with nothing written now answers Done with the snapshot number": at once, whatever the others do
-  pub enquiry : Enquiry (memoryOf (setUp d c w l)) qs
+  pub enquiry : Enquiry (setUp d c w l .memory) qs
   -- document 02, 9: "one runaway box can use many rows. A cell limit of 0 at set-up now stands for 8": a transaction has written at most as many
   -- cells as the limit says, whatever was called
-  pub capped : Capped (limitOf l) (tableAfter qs (memoryOf (setUp d c w l)) blank)
+  pub capped : Capped (limitOf l) (tableAfter qs (setUp d c w l .memory) blank)
   -- document 02, 8: "a transaction that has entered the request queue and isn't abandoned is closed, Done or Conflict, within 4 × n × n + 32
   -- rounds", where "only clients below n are named"
-  pub nobodyWaits : NobodyWaits (memoryOf (setUp d c w l)) qs
+  pub nobodyWaits : NobodyWaits (setUp d c w l .memory) qs
   -- "4,128 for 32" and, document 02, 12, "16,416 by the same formula" for 64; "whatever else is begun, written, abandoned or trimmed meanwhile":
   -- whatever the calls are
-  pub whoeverCalls : WhoeverCalls (memoryOf (setUp d c w l)) qs
+  pub whoeverCalls : WhoeverCalls (setUp d c w l .memory) qs
   -- and there are rounds, after every list of calls
-  pub roundsExist : RoundsExist (memoryOf (setUp d c w l)) qs
+  pub roundsExist : RoundsExist (setUp d c w l .memory) qs
   -- "Refusal by operation": a refused call gets one of the numbers listed for it; 11 is in no list: it "never occurs any more" (document 02, 2)
-  pub listed : AllListed (memoryOf (setUp d c w l)) qs
+  pub listed : AllListed (setUp d c w l .memory) qs
   -- "after a refused one every call gets 2"
-  pub unfit : accepts (length d) (length c) w l ≡ false → AllUnfit (memoryOf (setUp d c w l)) qs
+  pub unfit : accepts (length d) (length c) w l ≡ false → AllUnfit (setUp d c w l .memory) qs
   -- after one that is not refused the store is never unfit
-  pub fit : accepts (length d) (length c) w l ≡ true → AllFit (memoryOf (setUp d c w l)) qs
+  pub fit : accepts (length d) (length c) w l ≡ true → AllFit (setUp d c w l .memory) qs

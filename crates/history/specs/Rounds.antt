@@ -15,7 +15,8 @@ use Rattle.spec.specs.Set.{clients}
 use Rattle.spec.specs.declared.Progress.{Progress}
 use Rattle.spec.specs.declared.Progress.the-variants.{Stage, Waiting, Conflict, Done}
 use Rattle.spec.specs.Answers.{Answer, Answered, Refused}
-use Rattle.spec.specs.Run.{Call, Begin, Read, Write, Advance, Abandon, Trim, Free, Memory, memoryOf, step}
+use Rattle.spec.specs.Run.{Call, Begin, Read, Write, Advance, Abandon, Trim, Free, step}
+use Rattle.spec.specs.Bytes.{Memory}
 use Rattle.spec.specs.Table.{Open, Table, blank, Observed}
 use Rattle.spec.specs.Right.{observed}
 use Rattle.history.specs.Afterwards.{afterRun, tableAfter}
@@ -84,7 +85,7 @@ earlier Abandoned f = Abandoned
 -- by a list of calls, if it is the one that client k has open
 abbrev pub fate : ℕ → Memory → List Call → Fate
 fate k m [] = StillOpen
-fate k m (q ∷ qs) = earlier (fateBy k q (observed q m)) (fate k (memoryOf (step q m)) qs)
+fate k m (q ∷ qs) = earlier (fateBy k q (observed q m)) (fate k (step q m .memory) qs)
 
 -- ---- "Call it a round when every client at stages 1 to 13 at its start is advanced at least once or closed before its end."
 
@@ -109,7 +110,7 @@ serves k q a = isAdvance k q || isOver (fateBy k q a)
 -- by one of the calls
 abbrev pub served : ℕ → Memory → List Call → Bool
 served k m [] = false
-served k m (q ∷ qs) = serves k q (observed q m) || served k (memoryOf (step q m)) qs
+served k m (q ∷ qs) = serves k q (observed q m) || served k (step q m .memory) qs
 
 abbrev pub Round : Memory → Table → List Call → Type 0
 Round m t qs = (k : ℕ) → Queued t k → served k m qs ≡ true

@@ -6,11 +6,11 @@ ghost use Rattle.spec.specs.Bytes.{afterOf, onBytes};
 ghost use Rattle.spec.specs.Values.{valueRead, valueFrom};
 use spec::CELLS;
 use spec::LIMIT;
+use spec::Lookup;
 use spec::ReadAnswer;
 use spec::ReadTurn;
 use spec::Reading;
 use spec::Refusal;
-use spec::Lookup;
 use spec::Store;
 
 fn no_read(store: Store, refusal: Refusal) -> ReadTurn

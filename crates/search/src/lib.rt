@@ -13,8 +13,8 @@ ghost use Rattle.spec.specs.Share.{any, count, wrote, cellsOf, shares, conflict
 ghost use Rattle.search.specs.Inner.{rowOrCount, Next, WrittenMarks};
 use spec::CLIENTS;
 use spec::Found;
-use spec::Number;
 use spec::Lookup;
+use spec::Number;
 use spec::Set;
 
 // The row of a transaction for a cell, or how many rows it has where there is none.

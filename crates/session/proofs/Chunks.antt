@@ -12,8 +12,9 @@ use borrow.Author.Tests.{eq-eqb, ne-eqb}
 use lib.ListN.{length, getD, take, drop, length-drop, drop-of-length-le}
 use lib.Seq.{drop-cons, drop-drop}
 use lib.Dec.{eqb}
-use Rattle.spec.specs.Session.{World, answerTo, answers}
-use Rattle.session.specs.Inner.{newlineFrom, push, linesOf, unlessLines, restOf, Spoken, worldAfter}
+use Rattle.spec.specs.Session.{answerTo, answers}
+use Rattle.spec.specs.Bytes.{Memory}
+use Rattle.session.specs.Inner.{newlineFrom, push, linesOf, unlessLines, restOf, Spoken, memoryAfter}
 
 -- ---- one turn of the search for a newline
 
@@ -103,18 +104,18 @@ lines-at s from e h m l =
 
 -- ---- one turn of a loop over lines
 
-pub answers-cons : (w : World) (l : List ℕ) (ls : List (List ℕ)) → answers w (l ∷ ls) ≡ answerTo l w .text ++ answers (answerTo l w .world) ls
+pub answers-cons : (w : Memory) (l : List ℕ) (ls : List (List ℕ)) → answers w (l ∷ ls) ≡ answerTo l w .text ++ answers (answerTo l w .memory) ls
 unfolding answers
 answers-cons w l ls = refl
 
-pub after-cons : (w : World) (l : List ℕ) (ls : List (List ℕ)) → worldAfter w (l ∷ ls) ≡ worldAfter (answerTo l w .world) ls
-unfolding worldAfter
+pub after-cons : (w : Memory) (l : List ℕ) (ls : List (List ℕ)) → memoryAfter w (l ∷ ls) ≡ memoryAfter (answerTo l w .memory) ls
+unfolding memoryAfter
 after-cons w l ls = refl
 
-module _ (s : List ℕ) (from e : ℕ) (h : e ≡ newlineFrom from (drop from s)) (m : from ≤ e) (l : e < length s) (w w′ : World) (out out′ : List ℕ) (at used : ℕ) (p : Spoken (answerTo (take (e - from) (drop from s)) w) w′ out at out′ used) where
+module _ (s : List ℕ) (from e : ℕ) (h : e ≡ newlineFrom from (drop from s)) (m : from ≤ e) (l : e < length s) (w w′ : Memory) (out out′ : List ℕ) (at used : ℕ) (p : Spoken (answerTo (take (e - from) (drop from s)) w) w′ out at out′ used) where
   pub text-more : (whole : List ℕ) → take at out ++ answers w (linesOf (drop from s)) ≡ whole
       → take used out′ ++ answers w′ (linesOf (drop (e + 1) s)) ≡ whole
-  text-more whole a = rw (p .text .text, append-assoc, p .world) (rw (lines-at s from e h m l, answers-cons) at a)
+  text-more whole a = rw (p .text .text, append-assoc, p .memory) (rw (lines-at s from e h m l, answers-cons) at a)
 
-  pub state-more : (whole : World) → worldAfter w (linesOf (drop from s)) ≡ whole → worldAfter w′ (linesOf (drop (e + 1) s)) ≡ whole
-  state-more whole a = rw (p .world) (rw (lines-at s from e h m l, after-cons) at a)
+  pub state-more : (whole : Memory) → memoryAfter w (linesOf (drop from s)) ≡ whole → memoryAfter w′ (linesOf (drop (e + 1) s)) ≡ whole
+  state-more whole a = rw (p .memory) (rw (lines-at s from e h m l, after-cons) at a)

@@ -13,8 +13,9 @@ use lib.Dec.{eqb, leb}
 use lib.ListN.{length, take, length-append}
 use lib.Seq.{length-take-le, take-all}
 use Rattle.spec.specs.Text.{formOf}
-use Rattle.spec.specs.Session.{World, answerTo, answers, response, glue, lines, initial, output}
-use Rattle.session.specs.Inner.{push, linesOf, unlessLines, restOf, worldAfter, joined, unfinished, inChunks}
+use Rattle.spec.specs.Session.{answerTo, answers, response, glue, lines, initial, output}
+use Rattle.spec.specs.Bytes.{Memory}
+use Rattle.session.specs.Inner.{push, linesOf, unlessLines, restOf, memoryAfter, joined, unfinished, inChunks}
 use Rattle.session.proofs.Chunks.{either, lines-nil, rest-nil, lines-here, lines-past, rest-here, rest-past, answers-cons, after-cons}
 
 -- ---- the lines of an input by those that end in a newline
@@ -123,7 +124,7 @@ lines-take (suc n) (b ∷ k) e =
 -- ---- what is kept of a begun line
 
 -- "one over 80 bytes": no form, whatever it is
-long-alike : (l m : List ℕ) (w : World) → 80 < length l → 80 < length m → answerTo l w ≡ answerTo m w
+long-alike : (l m : List ℕ) (w : Memory) → 80 < length l → 80 < length m → answerTo l w ≡ answerTo m w
 unfolding answerTo formOf response
 long-alike l m w g h = rw (lt-ltb 80 (length l) g, lt-ltb 80 (length m) h)
 
@@ -133,27 +134,27 @@ record Kept (k r : List ℕ) : Type 0 where
   kept : linesOf k ≡ []
   same : (k ≡ r) ⊎ ((80 < length k) × (80 < length r))
 
-module _ (w : World) where
+module _ (w : Memory) where
   heads-alike : (k r l : List ℕ) (ls : List (List ℕ)) → 80 < length k → 80 < length r
-      → (answers w ((k ++ l) ∷ ls) ≡ answers w ((r ++ l) ∷ ls)) × (worldAfter w ((k ++ l) ∷ ls) ≡ worldAfter w ((r ++ l) ∷ ls))
+      → (answers w ((k ++ l) ∷ ls) ≡ answers w ((r ++ l) ∷ ls)) × (memoryAfter w ((k ++ l) ∷ ls) ≡ memoryAfter w ((r ++ l) ∷ ls))
   heads-alike k r l ls g h =
       let e : answerTo (k ++ l) w ≡ answerTo (r ++ l) w = long-alike (k ++ l) (r ++ l) w (rw length-append (omega arith)) (rw length-append (omega arith)) in
       (rw (answers-cons w (k ++ l) ls, answers-cons w (r ++ l) ls, e), rw (after-cons w (k ++ l) ls, after-cons w (r ++ l) ls, e))
 
 -- the answers to lines behind lines
-answers-append : (w : World) (ls ks : List (List ℕ)) → answers w (ls ++ ks) ≡ answers w ls ++ answers (worldAfter w ls) ks
-unfolding answers worldAfter
+answers-append : (w : Memory) (ls ks : List (List ℕ)) → answers w (ls ++ ks) ≡ answers w ls ++ answers (memoryAfter w ls) ks
+unfolding answers memoryAfter
 answers-append w [] ks = refl
-answers-append w (l ∷ ls) ks = rw (answers-append (answerTo l w .world) ls ks, append-assoc)
+answers-append w (l ∷ ls) ks = rw (answers-append (answerTo l w .memory) ls ks, append-assoc)
 
 -- a chunk behind what was kept is answered as behind the line itself
-module _ (w : World) (k r c : List ℕ) (h : Kept k r) where
+module _ (w : Memory) (k r c : List ℕ) (h : Kept k r) where
   long-lines : (ls : List (List ℕ)) → 80 < length k → 80 < length r
-      → (answers w (before k ls) ≡ answers w (before r ls)) × (worldAfter w (before k ls) ≡ worldAfter w (before r ls))
+      → (answers w (before k ls) ≡ answers w (before r ls)) × (memoryAfter w (before k ls) ≡ memoryAfter w (before r ls))
   long-lines [] g m = (refl, refl)
   long-lines (l ∷ ls) g m = heads-alike w k r l ls g m
 
-  alike : (answers w (linesOf (k ++ c)) ≡ answers w (linesOf (r ++ c))) × (worldAfter w (linesOf (k ++ c)) ≡ worldAfter w (linesOf (r ++ c)))
+  alike : (answers w (linesOf (k ++ c)) ≡ answers w (linesOf (r ++ c))) × (memoryAfter w (linesOf (k ++ c)) ≡ memoryAfter w (linesOf (r ++ c)))
   alike =
       ⊎-elim
       (λ e. (rw e, rw e))
@@ -195,7 +196,7 @@ last-lines (b ∷ r) e =
     glue-one [] = refl
     glue-one (x ∷ r) = refl
 
-last-alike : (w : World) (k r : List ℕ) → Kept k r → answers w (unfinished k) ≡ answers w (unfinished r)
+last-alike : (w : Memory) (k r : List ℕ) → Kept k r → answers w (unfinished k) ≡ answers w (unfinished r)
 last-alike w k r h = ⊎-elim (λ e. ap (λ l. answers w (unfinished l)) e) (λ g. both-long k r (g .0) (g .1)) (h .same)
   where
     both-long : (k r : List ℕ) → 80 < length k → 80 < length r → answers w (unfinished k) ≡ answers w (unfinished r)
@@ -203,12 +204,12 @@ last-alike w k r h = ⊎-elim (λ e. ap (λ l. answers w (unfinished l)) e) (λ 
     both-long (x ∷ k) [] g m = absurd (omega (arith, m))
     both-long (x ∷ k) (y ∷ r) g m = rw (answers-cons w (x ∷ k) [], answers-cons w (y ∷ r) [], long-alike (x ∷ k) (y ∷ r) w g m)
 
-chunked : (w : World) (cs : List (List ℕ)) (k r : List ℕ) → Kept k r → inChunks w k cs ≡ answers w (lines (r ++ joined cs))
+chunked : (w : Memory) (cs : List (List ℕ)) (k r : List ℕ) → Kept k r → inChunks w k cs ≡ answers w (lines (r ++ joined cs))
 unfolding inChunks joined
 chunked w [] k r h = rw (append-nil, last-lines r (h .begun)) (last-alike w k r h)
 chunked w (c ∷ cs) k r h =
     let a = alike w k r c h in
-    let v : World = worldAfter w (linesOf (r ++ c)) in
+    let v : Memory = memoryAfter w (linesOf (r ++ c)) in
     let i = chunked v cs (take 81 (restOf (k ++ c))) (restOf (r ++ c)) (cut (restOf (k ++ c)) (restOf (r ++ c)) (rest-kept w k r c h)) in
     rw (a .0, a .1, i, ← append-assoc r c (joined cs), lines-append (r ++ c) (joined cs), answers-append w (linesOf (r ++ c)) (lines (restOf (r ++ c) ++ joined cs)))
 

@@ -10,7 +10,8 @@ use lib.ListN.{length, take, drop}
 use Rattle.spec.specs.declared.Store.{Store}
 use Rattle.spec.specs.declared.FigureAnswer.{FigureAnswer}
 use Rattle.spec.specs.declared.FigureAnswer.the-variants.{Answered, Refused}
-use Rattle.spec.specs.Session.{World, Response, answerTo, answers}
+use Rattle.spec.specs.Session.{Response, answerTo, answers}
+use Rattle.spec.specs.Bytes.{Memory}
 use Rattle.text.specs.Inner.{Put}
 
 -- ---- The lines of an input that end in a newline, and what stands behind the last of them.
@@ -46,8 +47,8 @@ abbrev pub Front : ℕ → ℕ → ℕ → Type 0
 Front n len r = (r ≡ n) ⊎ ((r ≡ len) × (len ≤ n))
 
 -- w is what the response leaves, and out, whose text ended at a place, has become out′, whose text ends at used, with the response's text appended
-pub record Spoken (p : Response) (w : World) (out : List ℕ) (at : ℕ) (out′ : List ℕ) (used : ℕ) : Type 0 where
-  pub world : w ≡ p .world
+pub record Spoken (p : Response) (w : Memory) (out : List ℕ) (at : ℕ) (out′ : List ℕ) (used : ℕ) : Type 0 where
+  pub memory : w ≡ p .memory
   pub text : Put out at (p .text) out′ used
   pub room : used ≤ at + 90
 
@@ -57,15 +58,15 @@ keptOf old new (Answered n) = new
 keptOf old new (Refused r) = old
 
 -- what lines leave, one after the other
-unfoldable pub worldAfter : World → List (List ℕ) → World
-worldAfter w [] = w
-worldAfter w (l ∷ ls) = worldAfter (answerTo l w .world) ls
+unfoldable pub memoryAfter : Memory → List (List ℕ) → Memory
+memoryAfter w [] = w
+memoryAfter w (l ∷ ls) = memoryAfter (answerTo l w .memory) ls
 
 -- the text in out has grown by the answers to the lines of s between two places, and the state has gone along; what is left has no whole
 -- line, or out has no room for an answer
-pub record Fed (s : List ℕ) (start : ℕ) (w : World) (out : List ℕ) (at : ℕ) (from : ℕ) (w′ : World) (out′ : List ℕ) (used : ℕ) : Type 0 where
+pub record Fed (s : List ℕ) (start : ℕ) (w : Memory) (out : List ℕ) (at : ℕ) (from : ℕ) (w′ : Memory) (out′ : List ℕ) (used : ℕ) : Type 0 where
   pub text : take used out′ ++ answers w′ (linesOf (drop from s)) ≡ take at out ++ answers w (linesOf (drop start s))
-  pub state : worldAfter w′ (linesOf (drop from s)) ≡ worldAfter w (linesOf (drop start s))
+  pub state : memoryAfter w′ (linesOf (drop from s)) ≡ memoryAfter w (linesOf (drop start s))
   pub within : from ≤ length s
   pub room : used ≤ length out′
   pub stopped : (length out′ < used + 90) ⊎ (newlineFrom from (drop from s) ≡ length s)
@@ -84,7 +85,7 @@ unfinished [] = []
 unfinished (b ∷ l) = (b ∷ l) ∷ []
 
 -- the answers to the whole lines of a chunk behind what was kept; of the line that it leaves begun, 81 bytes at most are kept
-unfoldable pub inChunks : World → List ℕ → List (List ℕ) → List ℕ
+unfoldable pub inChunks : Memory → List ℕ → List (List ℕ) → List ℕ
 inChunks w kept [] = answers w (unfinished kept)
 inChunks w kept (c ∷ cs) =
-    answers w (linesOf (kept ++ c)) ++ inChunks (worldAfter w (linesOf (kept ++ c))) (take 81 (restOf (kept ++ c))) cs
+    answers w (linesOf (kept ++ c)) ++ inChunks (memoryAfter w (linesOf (kept ++ c))) (take 81 (restOf (kept ++ c))) cs

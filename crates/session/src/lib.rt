@@ -9,11 +9,11 @@ ghost use mathlib.Core.Path.{_≡_};
 ghost use Prim.Native.Nat.{_+_, _*_, _-_, _≤_};
 ghost use lib.ListN.{length, take, drop};
 ghost use Rattle.spec.specs.Answers.{readOf};
-ghost use Rattle.spec.specs.Calls.{free, begin, read, write, abandon, trim};
-ghost use Rattle.spec.specs.Steps.{advance};
-ghost use Rattle.spec.specs.Text.{valueIn, freeText, droppedText, begunText, readingText, progressText};
-ghost use Rattle.spec.specs.Session.{worldOf, called, said, valueAt, setUpResponse, answerTo};
+ghost use Rattle.spec.specs.Bytes.{memoryOf};
+ghost use Rattle.spec.specs.Run.{Begin, Read, Write, Advance, Abandon, Trim, Free};
+ghost use Rattle.spec.specs.Text.{valueIn};
 ghost use Rattle.spec.specs.Values.{valueFrom};
+ghost use Rattle.spec.specs.Session.{said, setUpResponse, answerTo};
 ghost use Rattle.session.specs.Inner.{newlineFrom, Front, Spoken, keptOf, Fed};
 
 pub struct Answered {
@@ -52,7 +52,11 @@ fn set_up_said(
     at: usize,
 ) -> Answered
     requires { ⌜ at + 90 ≤ length (now out) ⌝ }
-    ensures { λ r. ⌜ Spoken (setUpResponse (Form.SetUp count first limit) count first limit (worldOf store (now (rows .entry)) (now (commits .entry)))) (worldOf (r .store) (now (rows .exit)) (now (commits .exit))) (now (out .entry)) at (now (out .exit)) (r .used) ⌝ }
+    ensures { λ r. ⌜ Spoken
+        (setUpResponse (Form.SetUp count first limit) count first limit
+        (memoryOf store (now (rows .entry)) (now (commits .entry))))
+        (memoryOf (r .store) (now (rows .exit)) (now (commits .exit)))
+        (now (out .entry)) at (now (out .exit)) (r .used) ⌝ }
 {
     let form = Form::SetUp {
         rows: count,
@@ -84,7 +88,10 @@ fn begin_said(
     at: usize,
 ) -> Answered
     requires { ⌜ at + 90 ≤ length (now out) ⌝ }
-    ensures { λ r. ⌜ Spoken (said (Form.Begin client) begunText (worldOf store (now (rows .entry)) (now (commits .entry))) (called (begin client) (worldOf store (now (rows .entry)) (now (commits .entry))))) (worldOf (r .store) (now (rows .entry)) (now (commits .entry))) (now (out .entry)) at (now (out .exit)) (r .used) ⌝ }
+    ensures { λ r. ⌜ Spoken
+        (said (Form.Begin client) (Begin client) (memoryOf store (now (rows .entry)) (now (commits .entry))))
+        (memoryOf (r .store) (now (rows .entry)) (now (commits .entry)))
+        (now (out .entry)) at (now (out .exit)) (r .used) ⌝ }
 {
     let d = front(24 * store.rows as usize, rows.len());
     let c = front(8 * store.rows as usize, commits.len());
@@ -118,7 +125,10 @@ fn read_said(
     at: usize,
 ) -> Answered
     requires { ⌜ at + 90 ≤ length (now out) ⌝ }
-    ensures { λ r. ⌜ Spoken (said (Form.Read client cell) (λ g. readingText (valueAt (worldOf store (now (rows .entry)) (now (commits .entry))) g) g) (worldOf store (now (rows .entry)) (now (commits .entry))) (called (read client cell) (worldOf store (now (rows .entry)) (now (commits .entry))))) (worldOf (r .store) (now (rows .entry)) (now (commits .entry))) (now (out .entry)) at (now (out .exit)) (r .used) ⌝ }
+    ensures { λ r. ⌜ Spoken
+        (said (Form.Read client cell) (Read client cell) (memoryOf store (now (rows .entry)) (now (commits .entry))))
+        (memoryOf (r .store) (now (rows .entry)) (now (commits .entry)))
+        (now (out .entry)) at (now (out .exit)) (r .used) ⌝ }
 {
     let d = front(24 * store.rows as usize, rows.len());
     let c = front(8 * store.rows as usize, commits.len());
@@ -143,7 +153,11 @@ fn write_said(
     at: usize,
 ) -> Answered
     requires { ⌜ at + 90 ≤ length (now out) ⌝ }
-    ensures { λ r. ⌜ Spoken (said (Form.Write client cell place) freeText (worldOf store (now (rows .entry)) (now (commits .entry))) (called (write client cell (valueIn (now (line .entry)) place)) (worldOf store (now (rows .entry)) (now (commits .entry))))) (worldOf (r .store) (now (rows .exit)) (now (commits .entry))) (now (out .entry)) at (now (out .exit)) (r .used) ⌝ }
+    ensures { λ r. ⌜ Spoken
+        (said (Form.Write client cell place) (Write client cell (valueIn (now (line .entry)) place))
+        (memoryOf store (now (rows .entry)) (now (commits .entry))))
+        (memoryOf (r .store) (now (rows .exit)) (now (commits .entry)))
+        (now (out .entry)) at (now (out .exit)) (r .used) ⌝ }
 {
     let d = front(24 * store.rows as usize, rows.len());
     let c = front(8 * store.rows as usize, commits.len());
@@ -173,7 +187,10 @@ fn advance_said(
     at: usize,
 ) -> Answered
     requires { ⌜ at + 90 ≤ length (now out) ⌝ }
-    ensures { λ r. ⌜ Spoken (said (Form.Advance client) progressText (worldOf store (now (rows .entry)) (now (commits .entry))) (called (advance client) (worldOf store (now (rows .entry)) (now (commits .entry))))) (worldOf (r .store) (now (rows .exit)) (now (commits .exit))) (now (out .entry)) at (now (out .exit)) (r .used) ⌝ }
+    ensures { λ r. ⌜ Spoken
+        (said (Form.Advance client) (Advance client) (memoryOf store (now (rows .entry)) (now (commits .entry))))
+        (memoryOf (r .store) (now (rows .exit)) (now (commits .exit)))
+        (now (out .entry)) at (now (out .exit)) (r .used) ⌝ }
 {
     let d = front(24 * store.rows as usize, rows.len());
     let c = front(8 * store.rows as usize, commits.len());
@@ -193,7 +210,10 @@ fn abandon_said(
     at: usize,
 ) -> Answered
     requires { ⌜ at + 90 ≤ length (now out) ⌝ }
-    ensures { λ r. ⌜ Spoken (said (Form.Abandon client) freeText (worldOf store (now (rows .entry)) (now (commits .entry))) (called (abandon client) (worldOf store (now (rows .entry)) (now (commits .entry))))) (worldOf (r .store) (now (rows .exit)) (now (commits .entry))) (now (out .entry)) at (now (out .exit)) (r .used) ⌝ }
+    ensures { λ r. ⌜ Spoken
+        (said (Form.Abandon client) (Abandon client) (memoryOf store (now (rows .entry)) (now (commits .entry))))
+        (memoryOf (r .store) (now (rows .exit)) (now (commits .entry)))
+        (now (out .entry)) at (now (out .exit)) (r .used) ⌝ }
 {
     let d = front(24 * store.rows as usize, rows.len());
     let c = front(8 * store.rows as usize, commits.len());
@@ -212,7 +232,10 @@ fn trim_said(
     at: usize,
 ) -> Answered
     requires { ⌜ at + 90 ≤ length (now out) ⌝ }
-    ensures { λ r. ⌜ Spoken (said Form.Trim droppedText (worldOf store (now (rows .entry)) (now (commits .entry))) (called trim (worldOf store (now (rows .entry)) (now (commits .entry))))) (worldOf (r .store) (now (rows .exit)) (now (commits .exit))) (now (out .entry)) at (now (out .exit)) (r .used) ⌝ }
+    ensures { λ r. ⌜ Spoken
+        (said Form.Trim Trim (memoryOf store (now (rows .entry)) (now (commits .entry))))
+        (memoryOf (r .store) (now (rows .exit)) (now (commits .exit)))
+        (now (out .entry)) at (now (out .exit)) (r .used) ⌝ }
 {
     let d = front(24 * store.rows as usize, rows.len());
     let c = front(8 * store.rows as usize, commits.len());
@@ -225,7 +248,10 @@ fn trim_said(
 
 fn free_said(store: Store, rows: &[u8], commits: &[u8], out: &mut [u8], at: usize) -> Answered
     requires { ⌜ at + 90 ≤ length (now out) ⌝ }
-    ensures { λ r. ⌜ Spoken (said Form.Free freeText (worldOf store (now (rows .entry)) (now (commits .entry))) (called free (worldOf store (now (rows .entry)) (now (commits .entry))))) (worldOf (r .store) (now (rows .entry)) (now (commits .entry))) (now (out .entry)) at (now (out .exit)) (r .used) ⌝ }
+    ensures { λ r. ⌜ Spoken
+        (said Form.Free Free (memoryOf store (now (rows .entry)) (now (commits .entry))))
+        (memoryOf (r .store) (now (rows .entry)) (now (commits .entry)))
+        (now (out .entry)) at (now (out .exit)) (r .used) ⌝ }
 {
     let d = front(24 * store.rows as usize, rows.len());
     let c = front(8 * store.rows as usize, commits.len());
@@ -247,7 +273,10 @@ pub fn answer_line(
     at: usize,
 ) -> Answered
     requires { ⌜ at + 90 ≤ length (now out) ⌝ }
-    ensures { λ r. ⌜ Spoken (answerTo (now (line .entry)) (worldOf store (now (rows .entry)) (now (commits .entry)))) (worldOf (r .store) (now (rows .exit)) (now (commits .exit))) (now (out .entry)) at (now (out .exit)) (r .used) ⌝ }
+    ensures { λ r. ⌜ Spoken
+        (answerTo (now (line .entry)) (memoryOf store (now (rows .entry)) (now (commits .entry))))
+        (memoryOf (r .store) (now (rows .exit)) (now (commits .exit)))
+        (now (out .entry)) at (now (out .exit)) (r .used) ⌝ }
 {
     let form = text::form_of(line);
     match form {
@@ -310,7 +339,9 @@ pub fn chunk(
 ) -> Chunked
     requires { ⌜ start ≤ length (now buf) ⌝ }
     requires { ⌜ at ≤ length (now out) ⌝ }
-    ensures { λ r. ⌜ Fed (now (buf .entry)) start (worldOf store (now (rows .entry)) (now (commits .entry))) (now (out .entry)) at (r .from) (worldOf (r .store) (now (rows .exit)) (now (commits .exit))) (now (out .exit)) (r .used) ⌝ }
+    ensures { λ r. ⌜ Fed (now (buf .entry)) start
+        (memoryOf store (now (rows .entry)) (now (commits .entry))) (now (out .entry)) at (r .from)
+        (memoryOf (r .store) (now (rows .exit)) (now (commits .exit))) (now (out .exit)) (r .used) ⌝ }
 {
     let mut s = store;
     let mut from = start;

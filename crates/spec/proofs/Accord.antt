@@ -33,7 +33,8 @@ zero-is-eight d c w = refl
 -- what a set-up left, with another cell limit in the record where it was answered
 abbrev limited : ℕ → After ℕ → Answer ℕ → After ℕ
 limited l a (Answered n) =
-    afterOf (recordOf (a .store .rows) l (countersIn (a .store)) (clientsIn (a .store)) (a .store .used) (a .store .entries)) (a .dataBytes) (a .commitBytes) (Answered n)
+    let s : Store = a .memory .store in
+    afterOf (recordOf (s .rows) l (countersIn s) (clientsIn s) (s .used) (s .entries)) (a .memory .dataBytes) (a .memory .commitBytes) (Answered n)
 limited l a (Refused n) = a
 
 abbrev pub withLimit : ℕ → After ℕ → After ℕ

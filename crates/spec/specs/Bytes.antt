@@ -50,16 +50,24 @@ storeOf i = recordOf (i .rows) (i .limit) (i .counters) (i .clients) (length (i 
 
 -- ---- a call on a record and two buffers
 
--- all that a call leaves: the record, each byte of both buffers, and the answer
-pub record After (A : Type 0) : Type 0 where
+-- what a call finds and leaves: the record, and each byte of both buffers
+pub record Memory : Type 0 where
   pub store : Store
   pub dataBytes : List ℕ
   pub commitBytes : List ℕ
+
+abbrev pub memoryOf : Store → List ℕ → List ℕ → Memory
+memoryOf s d c = record { store = s; dataBytes = d; commitBytes = c }
+
+-- all that a call leaves: that, and the answer
+pub record After (A : Type 0) : Type 0 where
+  pub memory : Memory
   pub answer : Answer A
 
 abbrev pub afterOf : {A : Type 0} → Store → List ℕ → List ℕ → Answer A → After A
-afterOf s d c a = record { store = s; dataBytes = d; commitBytes = c; answer = a }
+afterOf s d c a = record { memory = memoryOf s d c; answer = a }
 
+-- the outcome of a call in the place of what the record s and the buffers d and c held
 unfoldable pub encode : {A : Type 0} → Store → List ℕ → List ℕ → Outcome A → After A
 encode s d c o =
     afterOf (storeOf (o .image)) (layout 24 (s .used) (o .image .dataRows) d) (layout 8 (s .entries) (o .image .commitRows) c) (o .answer)

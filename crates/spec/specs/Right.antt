@@ -14,8 +14,8 @@ use Rattle.spec.specs.declared.Progress.{Progress}
 use Rattle.spec.specs.declared.Progress.the-variants.{Stage, Waiting, Conflict, Done}
 use Rattle.spec.specs.Answers.{Answer, Answered, Refused, unfit, noCell, notOpen, wrongStage, cellLimit, noFreeRow, wrongLength}
 use Rattle.spec.specs.Calls.{cells}
-use Rattle.spec.specs.Bytes.{fits, limitOf}
-use Rattle.spec.specs.Run.{Call, Begin, Read, Write, Advance, Abandon, Trim, Free, refusals, Listed, Memory, memoryOf, step}
+use Rattle.spec.specs.Bytes.{fits, limitOf, Memory}
+use Rattle.spec.specs.Run.{Call, Begin, Read, Write, Advance, Abandon, Trim, Free, refusals, Listed, step}
 use Rattle.spec.specs.Table.{Value, Values, has, Commit, Open, Table, orElse, Observed, observeAnswer, update}
 
 -- ---- the words of the demands
@@ -181,27 +181,31 @@ numberAfter Free a w = w
 
 -- what a call tells: a read's value is that of the data rows in use when it returns
 abbrev pub observed : (q : Call) → Memory → Answer (Observed q)
-observed q m = observeAnswer q (rowsIn 24 (step q m .store .used) (step q m .dataBytes)) (step q m .answer)
+observed q m = observeAnswer q (rowsIn 24 (step q m .memory .store .used) (step q m .memory .dataBytes)) (step q m .answer)
 
 -- Every answer of the list is right, by the plain table that was told the calls and answers before it.
 abbrev pub RightRun : Bounds → ℕ → Table → Memory → List Call → Type 0
 RightRun b w t m [] = Unit {0}
 RightRun b w t m (q ∷ qs) =
-    Right b w t q (observed q m) (step Free (memoryOf (step q m)) .answer)
-    × RightRun b (numberAfter q (observed q m) w) (update q (observed q m) t) (memoryOf (step q m)) qs
+    Right b w t q (observed q m) (step Free (step q m .memory) .answer)
+    × RightRun b (numberAfter q (observed q m) w) (update q (observed q m) t) (step q m .memory) qs
 
 -- every call of the list gets 2 and changes nothing
 abbrev pub AllUnfit : Memory → List Call → Type 0
 AllUnfit m [] = Unit {0}
-AllUnfit m (q ∷ qs) = (step q m .answer ≡ Refused unfit) × ((memoryOf (step q m) ≡ m) × AllUnfit m qs)
+AllUnfit m (q ∷ qs) = (step q m .answer ≡ Refused unfit) × ((step q m .memory ≡ m) × AllUnfit m qs)
+
+-- a record and two buffers that are fit
+abbrev pub Fit : Memory → Type 0
+Fit m = fits (m .store) (length (m .dataBytes)) (length (m .commitBytes)) ≡ true
 
 -- the store is fit after each call of the list
 abbrev pub AllFit : Memory → List Call → Type 0
 AllFit m [] = Unit {0}
 AllFit m (q ∷ qs) =
-    (fits (step q m .store) (length (step q m .dataBytes)) (length (step q m .commitBytes)) ≡ true) × AllFit (memoryOf (step q m)) qs
+    Fit (step q m .memory) × AllFit (step q m .memory) qs
 
 -- every refused call of the list gets a number that document 01 has for it
 abbrev pub AllListed : Memory → List Call → Type 0
 AllListed m [] = Unit {0}
-AllListed m (q ∷ qs) = Listed (refusals q) (step q m .answer) × AllListed (memoryOf (step q m)) qs
+AllListed m (q ∷ qs) = Listed (refusals q) (step q m .answer) × AllListed (step q m .memory) qs

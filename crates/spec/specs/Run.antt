@@ -2,7 +2,6 @@
 -- Assumes nothing.
 use Prim.Native.Nat.{ℕ}
 use mathlib.Core.List.{List, [], _∷_, List·Memᴰ}
-use Rattle.spec.specs.declared.Store.{Store}
 use Rattle.spec.specs.declared.Begun.{Begun}
 use Rattle.spec.specs.declared.Reading.{Reading}
 use Rattle.spec.specs.declared.Progress.{Progress}
@@ -10,7 +9,7 @@ use Rattle.spec.specs.Answers.{Answer, Answered, Refused}
 use Rattle.spec.specs.Image.{Image}
 use Rattle.spec.specs.Calls.{Outcome, free, begin, read, write, abandon, trim}
 use Rattle.spec.specs.Steps.{advance}
-use Rattle.spec.specs.Bytes.{After, onBytes}
+use Rattle.spec.specs.Bytes.{Memory, After, onBytes}
 
 -- a call with its arguments: client, cell, value
 pub data Call : Type 0 where
@@ -48,24 +47,15 @@ Listed l (Answered a) = Unit {0}
 Listed l (Refused n) = List·Memᴰ n l
 
 -- what it makes of an image
-unfoldable pub perform : (q : Call) → Image → Outcome (Result q)
-perform (Begin k) i = begin k i
-perform (Read k x) i = read k x i
-perform (Write k x v) i = write k x v i
-perform (Advance k) i = advance k i
-perform (Abandon k) i = abandon k i
-perform Trim i = trim i
-perform Free i = free i
+abbrev pub perform : (q : Call) → Image → Outcome (Result q)
+perform (Begin k) = begin k
+perform (Read k x) = read k x
+perform (Write k x v) = write k x v
+perform (Advance k) = advance k
+perform (Abandon k) = abandon k
+perform Trim = trim
+perform Free = free
 
--- the record and the bytes of both buffers, as a call finds and leaves them
-pub record Memory : Type 0 where
-  pub store : Store
-  pub dataBytes : List ℕ
-  pub commitBytes : List ℕ
-
-abbrev pub memoryOf : {A : Type 0} → After A → Memory
-memoryOf a = record { store = a .store; dataBytes = a .dataBytes; commitBytes = a .commitBytes }
-
--- what a call leaves of them and answers: what the promise of the call's code says
+-- what it leaves of a record and two buffers, and answers: what the promise of the call's code says
 abbrev pub step : (q : Call) → Memory → After (Result q)
 step q m = onBytes (perform q) (m .store) (m .dataBytes) (m .commitBytes)

@@ -14,8 +14,12 @@ use Rattle.spec.specs.Answers.{Answer, Answered, Refused}
 unfoldable pub valueRead : ℕ → List ℕ → List ℕ
 valueRead at d = if leb (length d / 24) at then [] else valueOf (rowAt 24 at d)
 
+-- of the row that a reading names, none where it names none
+abbrev pub valueFor : List ℕ → Reading → List ℕ
+valueFor d (Value at) = valueRead at d
+valueFor d Unwritten = []
+
 -- of the row that an answer names, none for any other answer
 unfoldable pub valueFrom : List ℕ → Answer Reading → List ℕ
-valueFrom d (Answered (Value at)) = valueRead at d
-valueFrom d (Answered Unwritten) = []
+valueFrom d (Answered g) = valueFor d g
 valueFrom d (Refused n) = []

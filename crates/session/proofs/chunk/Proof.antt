@@ -7,15 +7,16 @@ use mathlib.Core.List.{_++_}
 use native.Mathlib.Omega.{arith}
 use borrow.Author.Needs.{needs}
 use lib.ListN.{length, take, drop}
-use Rattle.spec.specs.Session.{worldOf, answers}
-use Rattle.session.specs.Inner.{linesOf, worldAfter}
+use Rattle.spec.specs.Session.{answers}
+use Rattle.spec.specs.Bytes.{memoryOf}
+use Rattle.session.specs.Inner.{linesOf, memoryAfter}
 use Rattle.session.proofs.Chunks.{newline-end, text-more, state-more}
 use Rattle.session.proofs.chunk.Statement.{statement}
 use Rattle.session.proofs.chunk.Tie as tie
 
 abbrev Inv-loop : tie.InvT-loop
 Inv-loop buf start rows₀ commits₀ out₀ at s₀ from₀ used₀ rows commits out s from used =
-    (from ≤ length buf) × (used ≤ length out) × (length out ≡ length out₀) × (length rows ≡ length rows₀) × (length commits ≡ length commits₀) × (take used out ++ answers (worldOf s rows commits) (linesOf (drop from buf)) ≡ take at out₀ ++ answers (worldOf s₀ rows₀ commits₀) (linesOf (drop start buf))) × (worldAfter (worldOf s rows commits) (linesOf (drop from buf)) ≡ worldAfter (worldOf s₀ rows₀ commits₀) (linesOf (drop start buf)))
+    (from ≤ length buf) × (used ≤ length out) × (length out ≡ length out₀) × (length rows ≡ length rows₀) × (length commits ≡ length commits₀) × (take used out ++ answers (memoryOf s rows commits) (linesOf (drop from buf)) ≡ take at out₀ ++ answers (memoryOf s₀ rows₀ commits₀) (linesOf (drop start buf))) × (memoryAfter (memoryOf s rows commits) (linesOf (drop from buf)) ≡ memoryAfter (memoryOf s₀ rows₀ commits₀) (linesOf (drop start buf)))
 
 abbrev μ-loop : tie.MeasureT-loop
 μ-loop buf start rows₀ commits₀ out₀ at s₀ from₀ used₀ rows commits out s from used = length buf - from
@@ -50,8 +51,8 @@ loop-again c =
     let a = c .before .before .before .before .before .before .before .before .before .before .before .before .before .before .before .before .before .before .before .before .before .before .args in
     let t = c .before .before .before .before .before .before .before .answer-line in
     let h : n .result < length (a .buf .now) = omega (arith, c .before .before .before .before .before .before .before .before .before .before .before .before .if3 .left) in
-    let w = worldOf (l .s) (l .rows) (l .commits) in
-    let w′ = worldOf (t .result .store) (t .last .1 .1 .0) (t .last .1 .1 .1 .0) in
+    let w = memoryOf (l .s) (l .rows) (l .commits) in
+    let w′ = memoryOf (t .result .store) (t .last .1 .1 .0) (t .last .1 .1 .1 .0) in
     (omega (arith, h), omega (arith, t .ensures .room, t .kept .1 .1 .1 .1 .0, c .before .before .before .before .before .before .before .before .before .before .before .before .before .before .if2 .left, c .before .before .before .before .before .before .before .before .before .before .before .before .before .before .before .if1 .left), t .kept .1 .1 .1 .1 .0 ∙ l .inv .2, t .kept .1 .1 .0 ∙ l .inv .3, t .kept .1 .1 .1 .0 ∙ l .inv .4, text-more (a .buf .now) (l .from) (n .result) (n .ensures .0) (n .ensures .1 .0) h w w′ (l .out) (t .last .1 .1 .1 .1 .0) (l .used) (t .result .used) (t .ensures) _ (l .inv .5), state-more (a .buf .now) (l .from) (n .result) (n .ensures .0) (n .ensures .1 .0) h w w′ (l .out) (t .last .1 .1 .1 .1 .0) (l .used) (t .result .used) (t .ensures) _ (l .inv .6))
 
 returns-4 : tie.Need-returns-4 Inv-loop μ-loop
