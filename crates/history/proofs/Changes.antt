@@ -1,5 +1,5 @@
 -- Every call as one of four changes of the clients: it leaves them as they are, begins one, moves one, or closes one (`Change`), made once from
--- `Transition`. What a call does to the queues (`effect`), what it brings to the client that it serves (`served-by`), and that a transaction that it
+-- `Transition`. What a call does to the queues (`call-effect`), what it brings to the client that it serves (`served-by`), and that a transaction that it
 -- does not close remains (`remains`), each go by these four.
 -- Assumes nothing.
 use Prim.Native.Nat.{ℕ, suc, _≤_, _<_}
@@ -223,12 +223,12 @@ module _ (s : State) (idle : (b : ℕ) → s .cl b .number ≡ 0 → s .cl b .st
 
 -- ---- what goes by the four
 
-pub effect : {s : State} → ((b : ℕ) → s .cl b .number ≡ 0 → s .cl b .stage ≡ 0) → {q : Call} {o : Out (Answer (Observed q))} → Change s q o
+pub call-effect : {s : State} → ((b : ℕ) → s .cl b .number ≡ 0 → s .cl b .stage ≡ 0) → {q : Call} {o : Out (Answer (Observed q))} → Change s q o
     → Effect q s (o .state)
-effect {s} idle (rests t e w r c n k) = quiet s t e w r c
-effect {s} idle (starts a h was) = beginning s a h (idle a was)
-effect {s} idle (moves a c x f R C last m u v l tame out lr lc) = ups u f tame out R C last (s .dat) m lr lc
-effect {s} idle (ends a d e n) = closing s a d
+call-effect {s} idle (rests t e w r c n k) = quiet s t e w r c
+call-effect {s} idle (starts a h was) = beginning s a h (idle a was)
+call-effect {s} idle (moves a c x f R C last m u v l tame out lr lc) = ups u f tame out R C last (s .dat) m lr lc
+call-effect {s} idle (ends a d e n) = closing s a d
 
 -- what the call that serves a client at stage 1 or later brings it: one stage, its end, or a wait with someone on its list
 pub data Brings (s t : State) (b : ℕ) : Type 0 where

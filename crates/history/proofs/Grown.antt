@@ -19,7 +19,7 @@ use Rattle.history.proofs.AllCalls.{Reached, took, good-next, told-by}
 use Rattle.history.specs.Rounds as calls
 use Rattle.history.specs.Rounds.{Below, serves}
 use Rattle.history.proofs.Effects.{requestSide, commitSide, OnLists, Same, Effect}
-use Rattle.history.proofs.Changes.{Change, change, effect, Brings, served-by}
+use Rattle.history.proofs.Changes.{Change, change, call-effect, Brings, served-by}
 
 -- what call c leaves of image s
 abbrev pub next : Image → Call → Image
@@ -56,7 +56,7 @@ module _ {n : ℕ} (s : Image) (g : Grown n s) where
   changed c = change (view s) (λ b. inv .one b .idle) (took (g .good) c)
 
   pub does : (c : Call) → Effect c (view s) (view (next s c))
-  does c = effect (λ b. inv .one b .idle) (changed c)
+  does c = call-effect (λ b. inv .one b .idle) (changed c)
 
   pub gets : (c : Call) (b : ℕ) → serves b c (told-by c s) ≡ true → 1 ≤ client s b .stage → Brings (view s) (view (next s c)) b
   gets c b d h = served-by (changed c) b d h

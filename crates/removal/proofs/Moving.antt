@@ -184,8 +184,8 @@ pub moving-room : (flags : List ℕ) (w n : ℕ) (s buf : List ℕ) (to i : ℕ)
 moving-room flags w n s buf to i l h m = (mul-le-mul-left w (m .fewer), omega (arith, row-inside w i n (length s) h l))
 
 -- the freed part lies within the buffer
-pub closing : (flags : List ℕ) (w n : ℕ) (s : List ℕ) (r : ℕ) → 0 < n → r ≡ length (keptFrom flags 0 (rowsIn w n s)) → (r ≤ n) × (w * r ≤ w * n) × (w ≤ w * n)
-closing flags w n s r h e =
+pub closing-up : (flags : List ℕ) (w n : ℕ) (s : List ℕ) (r : ℕ) → 0 < n → r ≡ length (keptFrom flags 0 (rowsIn w n s)) → (r ≤ n) × (w * r ≤ w * n) × (w ≤ w * n)
+closing-up flags w n s r h e =
     let few : r ≤ n = omega (arith, kept-at-most flags w n s) in
     let one : w * 1 ≤ w * n = mul-le-mul-left w h in
     (few, mul-le-mul-left w few, omega arith)

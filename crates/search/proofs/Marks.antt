@@ -20,20 +20,20 @@ from-mark true = refl
 from-mark false = refl
 
 -- what `mark` leaves
-abbrev pub marked : List ℕ → ℕ → List ℕ
-marked marks cell = if ltb cell 1024 then set marks cell 1 else marks
+abbrev pub marks-written : List ℕ → ℕ → List ℕ
+marks-written marks cell = if ltb cell 1024 then set marks cell 1 else marks
 
-pub length-marked : (marks : List ℕ) (cell : ℕ) → length marks ≡ 1024 → length (marked marks cell) ≡ 1024
+pub length-marked : (marks : List ℕ) (cell : ℕ) → length marks ≡ 1024 → length (marks-written marks cell) ≡ 1024
 length-marked marks cell h = go (ltb cell 1024)
   where
     go : (t : Bool) → length (if t then set marks cell 1 else marks) ≡ 1024
     go true = length-set marks cell 1 ∙ h
     go false = h
 
-marked-same : (marks : List ℕ) (cell x : ℕ) → length marks ≡ 1024 → x < 1024 → cell ≡ x → getD (marked marks cell) x 0 ≡ 1
+marked-same : (marks : List ℕ) (cell x : ℕ) → length marks ≡ 1024 → x < 1024 → cell ≡ x → getD (marks-written marks cell) x 0 ≡ 1
 marked-same marks cell x h l e = rw (e, lt-ltb x 1024 l) (getD-set-same marks x 1 0 (omega arith))
 
-marked-other : (marks : List ℕ) (cell x : ℕ) → (cell ≡ x → ⊥) → getD (marked marks cell) x 0 ≡ getD marks x 0
+marked-other : (marks : List ℕ) (cell x : ℕ) → (cell ≡ x → ⊥) → getD (marks-written marks cell) x 0 ≡ getD marks x 0
 marked-other marks cell x n = go (ltb cell 1024)
   where
     go : (t : Bool) → getD (if t then set marks cell 1 else marks) x 0 ≡ getD marks x 0
@@ -43,11 +43,11 @@ marked-other marks cell x n = go (ltb cell 1024)
 -- a row of the transaction, and one of another
 module _ (tag n i : ℕ) (s : List ℕ) where
   pub mark-hit : i < n → tagOf (rowAt 24 i s) ≡ tag → (marks : List ℕ) → length marks ≡ 1024 → (x : ℕ) → x < 1024
-      → (if wrote (rowsFrom 24 n i s) tag x then 1 else getD marks x 0) ≡ (if wrote (rowsFrom 24 n (i + 1) s) tag x then 1 else getD (marked marks (cellOf (rowAt 24 i s))) x 0)
+      → (if wrote (rowsFrom 24 n i s) tag x then 1 else getD marks x 0) ≡ (if wrote (rowsFrom 24 n (i + 1) s) tag x then 1 else getD (marks-written marks (cellOf (rowAt 24 i s))) x 0)
   mark-hit h e marks l x b = rw (wrote-hit tag x 24 n i s h e) (go (eqb (cellOf (rowAt 24 i s)) x) refl (wrote (rowsFrom 24 n (i + 1) s) tag x))
     where
       go : (t : Bool) → eqb (cellOf (rowAt 24 i s)) x ≡ t → (u : Bool)
-          → (if (if t then true else u) then 1 else getD marks x 0) ≡ (if u then 1 else getD (marked marks (cellOf (rowAt 24 i s))) x 0)
+          → (if (if t then true else u) then 1 else getD marks x 0) ≡ (if u then 1 else getD (marks-written marks (cellOf (rowAt 24 i s))) x 0)
       go true q true = refl
       go true q false = sym (marked-same marks (cellOf (rowAt 24 i s)) x l b (eqb-true _ _ q))
       go false q true = refl

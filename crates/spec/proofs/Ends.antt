@@ -23,7 +23,7 @@ unless true b e = absurd (false≢true e)
 unless false b e = (refl, e)
 
 -- what a fit store is
-pub record Fit (s : Store) (d c : ℕ) : Type 0 where
+pub record FitFacts (s : Store) (d c : ℕ) : Type 0 where
   pub some : 1 ≤ s .rows
   pub most : s .rows ≤ 1024
   pub dataLength : d ≡ 24 * s .rows
@@ -31,7 +31,7 @@ pub record Fit (s : Store) (d c : ℕ) : Type 0 where
   pub dataRows : s .used ≤ s .rows
   pub commitRows : s .entries ≤ s .rows
 
-pub fit-of : (s : Store) (d c : ℕ) → fits s d c ≡ true → Fit s d c
+pub fit-of : (s : Store) (d c : ℕ) → fits s d c ≡ true → FitFacts s d c
 unfolding fits
 fit-of s d c e =
     let a = unless (ltb (s .rows) 1) _ e in

@@ -2,7 +2,7 @@
 use Prim.Native.Nat.{_*_, _≤_}
 use borrow.Author.Needs.{needs}
 use native.Mathlib.Omega.{arith}
-use Rattle.removal.proofs.Moving.{closing, freed-cleared}
+use Rattle.removal.proofs.Moving.{closing-up, freed-cleared}
 use Rattle.removal.proofs.compact.Statement.{statement}
 use Rattle.removal.proofs.compact.Tie as tie
 
@@ -12,7 +12,7 @@ room : (c : tie.After-slice-known2)
     (left ≤ a .used) × (8 * a .words * left ≤ 8 * a .words * a .used) × (8 * a .words ≤ 8 * a .words * a .used)
 room c =
     let a = c .before .before .before .before .before .args in
-    closing (a .flags .now) (8 * a .words) (a .used) (a .buf .now) (c .before .before .keep-rows .result) (omega arith) (c .before .before .keep-rows .ensures .0)
+    closing-up (a .flags .now) (8 * a .words) (a .used) (a .buf .now) (c .before .before .keep-rows .result) (omega arith) (c .before .before .keep-rows .ensures .0)
 
 returns : tie.Need-returns
 returns c =

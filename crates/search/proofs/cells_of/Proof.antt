@@ -10,7 +10,7 @@ use Rattle.spec.proofs.Rows.{rows-start}
 use Rattle.spec.specs.Share.{wrote}
 use Rattle.search.proofs.Passes.{skip}
 use Rattle.search.proofs.Folds.{wrote-end}
-use Rattle.search.proofs.Marks.{marked, length-marked, mark-hit, mark-miss}
+use Rattle.search.proofs.Marks.{marks-written, length-marked, mark-hit, mark-miss}
 use Rattle.search.proofs.cells_of.Statement.{statement}
 use Rattle.search.proofs.cells_of.Tie as tie
 
@@ -40,7 +40,7 @@ loop-again c =
     let loop = c .before .before .before .before .before .loop in
     let pass = c .next-tag2 .ensures in
     let marks = c .before .mark .last .0 in
-    let out : marks ≡ marked (loop .marks) (cellOf (rowAt 24 (loop .i) (a .rows .now))) = c .before .mark .ensures ∙ rw (c .before .before .cell-at .ensures) in
+    let out : marks ≡ marks-written (loop .marks) (cellOf (rowAt 24 (loop .i) (a .rows .now))) = c .before .mark .ensures ∙ rw (c .before .before .cell-at .ensures) in
     let h : loop .i < a .used = omega arith in (
       pass .end,
       pass .hit,
