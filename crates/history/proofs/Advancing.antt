@@ -22,7 +22,9 @@ use Rattle.spec.specs.Share.{any, shares, conflict}
 use Rattle.spec.specs.declared.Progress.the-variants.{Stage, Waiting, Done}
 use Rattle.spec.specs.Answers.{Answered, noClient, notOpen}
 use Rattle.spec.specs.Image.{Clients, Image, withClients, withRows, withRequested, withTaken, withLast, setRequest, setCommit, setRequestWaits, setCommitWaits, isOpen, stageOf, numberOf, snapshotOf, requestOf, commitNumberOf}
-use Rattle.spec.specs.Calls.{cells, replies, top}
+use Rattle.spec.specs.Calls.{replies}
+use Rattle.spec.specs.Numbers.{top}
+use Rattle.spec.specs.Rows.{cells}
 use Rattle.spec.specs.Steps as st
 use Rattle.spec.specs.Steps.{requestQueue, commitQueue, struck, others, steps, noStep}
 use Rattle.spec.specs.Run.{Advance}

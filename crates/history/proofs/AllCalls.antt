@@ -15,7 +15,8 @@ use lib.ListN.{length}
 use Rattle.spec.specs.Rows.{Row, rowsIn}
 use Rattle.spec.specs.Answers.{Answer, Answered, Refused, unfit}
 use Rattle.spec.specs.Image.{Image, empty, numberOf, stageOf, commitNumberOf}
-use Rattle.spec.specs.Calls.{top, free}
+use Rattle.spec.specs.Calls.{free}
+use Rattle.spec.specs.Numbers.{top}
 use Rattle.spec.specs.Bytes.{After, fits, limitOf, accepts, setUp, Memory}
 use Rattle.spec.specs.Run.{Call, Begin, Read, Write, Advance, Abandon, Trim, Free, Result, perform, step}
 use Rattle.spec.specs.Table.{Table, blank, Observed, observeAnswer, update}

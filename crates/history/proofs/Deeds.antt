@@ -27,7 +27,7 @@ use Rattle.spec.specs.declared.Progress.the-variants.{Done}
 use Rattle.spec.specs.Answers.{Answered, cellLimit, noFreeRow}
 use Rattle.spec.specs.Run.{Begin, Read, Write, Advance, Abandon, Trim}
 use Rattle.spec.specs.Set.{clients}
-use Rattle.spec.specs.Calls.{cells}
+use Rattle.spec.specs.Rows.{cells}
 
 module _ {bounds : Bounds} {s : State} {p : Plain} (inv : Inv bounds s p) (a : ℕ) where
   -- Client a ends outside both queues, and the rows of the others are no more than they were.

@@ -17,7 +17,7 @@ use Rattle.history.proofs.Model.{DRow, CRow, Client, State, findₛ, nu
 use Rattle.history.proofs.Plain.{Entry, PClient, Plain, Sharesₚ, newerₚ, olderₚ, lastOfₚ}
 use Rattle.spec.specs.Table.{Value, orElse}
 use Rattle.spec.specs.Set.{clients}
-use Rattle.spec.specs.Calls.{cells}
+use Rattle.spec.specs.Rows.{cells}
 use Rattle.spec.specs.Right.{Bounds}
 
 -- Of each client, what the rows and the book are held to. `late` is 0 below stage 12.

@@ -13,7 +13,7 @@ use native.Mathlib.Omega.{arith}
 use lib.Dec.{eqb}
 use Rattle.spec.specs.declared.Progress.the-variants.{Stage, Waiting, Conflict, Done}
 use Rattle.spec.specs.Answers.{Answer, Answered, Refused}
-use Rattle.spec.specs.Calls.{cells}
+use Rattle.spec.specs.Rows.{cells}
 use Rattle.spec.specs.Run.{Call, Begin, Read, Write, Advance, Abandon, Trim, Free}
 use Rattle.spec.specs.Bytes.{Memory}
 use Rattle.spec.specs.Table.{Value, Values, has, Open, Table, blank, unwritten, override, withClient, withWrites, atStage, newlyOpen, onStage, Observed, update}

@@ -20,7 +20,7 @@ use Rattle.history.proofs.Tables.{trimDat, trimComm, tab-trimmed, was}
 use Rattle.history.proofs.Counts.{some-has, none-has, valued-none, valued-more}
 use Rattle.spec.specs.Table.{Value}
 use Rattle.spec.specs.Right.{valued}
-use Rattle.spec.specs.Calls.{cells}
+use Rattle.spec.specs.Rows.{cells}
 
 sift-some : {P : ℕ → Type 0} (d : (n : ℕ) → Dec (P n)) (o : Option ℕ) (n : ℕ) → sift d o ≡ some n → (o ≡ some n) × P n
 unfolding sift

@@ -10,7 +10,7 @@ use native.Mathlib.Omega.{arith}
 use Rattle.spec.specs.Set.{clients}
 use Rattle.spec.specs.declared.Progress.{Progress}
 use Rattle.spec.specs.Answers.{Answer}
-use Rattle.spec.specs.Calls.{top}
+use Rattle.spec.specs.Numbers.{top}
 use Rattle.spec.specs.Run.{Call}
 use Rattle.spec.specs.Table.{Observed}
 use Rattle.spec.specs.Right.{Bounds, ReadRefusal, numberAfter}

@@ -20,7 +20,9 @@ use Rattle.spec.specs.Look.{isOwn, find}
 use Rattle.spec.specs.Share.{any, cellsOf, conflict}
 use Rattle.spec.specs.declared.Progress.{Progress}
 use Rattle.spec.specs.Image.{Image, numberOf, snapshotOf, stageOf, isOpen}
-use Rattle.spec.specs.Calls.{Outcome, replies, refuse, cells, top, free, begun, begin, read, replaced, added, stored, write, abandon, trimmedTo, trim}
+use Rattle.spec.specs.Calls.{Outcome, replies, refuse, free, begun, begin, read, replaced, added, stored, write, abandon, trimmedTo, trim}
+use Rattle.spec.specs.Numbers.{top}
+use Rattle.spec.specs.Rows.{cells}
 use Rattle.spec.specs.Steps.{goOn, finished, enter, takeRequest, listRequests, looked, lookRequests, checked, check, takeCommit, listCommits, lookCommits, addCommit, leaveCommits, leaveRequests, steps, noStep, advance}
 use Rattle.spec.specs.Answers.{Answer, Refused}
 use Rattle.spec.specs.Bytes.{decode, After, encode, fits, onBytes, Memory}

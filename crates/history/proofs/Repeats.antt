@@ -10,7 +10,7 @@ use mathlib.Core.List.{List}
 use mathlib.Core.Option.{Option, some}
 use native.Mathlib.Omega.{arith}
 use Rattle.spec.specs.Answers.{Answer, Answered, Refused}
-use Rattle.spec.specs.Calls.{cells}
+use Rattle.spec.specs.Rows.{cells}
 use Rattle.spec.specs.Run.{Call, Read}
 use Rattle.spec.specs.Bytes.{Memory}
 use Rattle.spec.specs.Table.{Value, Commit, Open, Table, orElse, update}

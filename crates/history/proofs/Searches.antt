@@ -27,7 +27,7 @@ use Rattle.spec.specs.Numbers.{lesser, above, upTo}
 use Rattle.spec.specs.Look as k
 use Rattle.spec.specs.Look.{commitOf, isOwn, versionOf, newer, versionAt, newest}
 use Rattle.spec.specs.Share.{any, wrote, cellsOf, shares, clash, conflict}
-use Rattle.spec.specs.Calls.{cells}
+use Rattle.spec.specs.Rows.{cells}
 use Rattle.spec.specs.Table.{Value, Values, has}
 use Rattle.spec.specs.Right.{valued}
 use Rattle.history.proofs.Counts.{valued-none, valued-same, valued-more}

@@ -21,7 +21,9 @@ use Rattle.spec.specs.declared.Lookup.the-variants.{Version, Nothing}
 use Rattle.spec.specs.Look.{isOwn, find, versionOf, newest, ownOr, lookFor}
 use Rattle.spec.specs.Answers.{Answered, noClient, noCell, alreadyOpen, notOpen, wrongStage, numbersUsedUp}
 use Rattle.spec.specs.Image.{Clients, Image, isOpen, stageOf, numberOf, snapshotOf}
-use Rattle.spec.specs.Calls.{cells, top, begun, begin, reading, read, removed, abandon, free}
+use Rattle.spec.specs.Calls.{begun, begin, reading, read, removed, abandon, free}
+use Rattle.spec.specs.Numbers.{top}
+use Rattle.spec.specs.Rows.{cells}
 use Rattle.spec.specs.Run.{Begin, Read, Abandon, Free}
 use Rattle.spec.specs.Table.{Value, orElse, bytesRead}
 use Rattle.history.proofs.Wellformed.{Wellformed, Tidy}

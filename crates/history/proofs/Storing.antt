@@ -23,7 +23,8 @@ use Rattle.spec.specs.Look.{isOwn, find}
 use Rattle.spec.specs.Share.{cellsOf}
 use Rattle.spec.specs.Answers.{Answered, noClient, noCell, notOpen, wrongStage, cellLimit, noFreeRow, wrongLength}
 use Rattle.spec.specs.Image.{Image, withRows, isOpen, stageOf, numberOf}
-use Rattle.spec.specs.Calls.{cells, repliesFree, added, replaced, stored, write}
+use Rattle.spec.specs.Calls.{repliesFree, added, replaced, stored, write}
+use Rattle.spec.specs.Rows.{cells}
 use Rattle.spec.specs.Run.{Write}
 use Rattle.spec.specs.Table.{has}
 use Rattle.spec.specs.Right.{valued, Writable, for-cell, for-length, for-stage, for-limit, for-rows}

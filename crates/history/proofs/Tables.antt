@@ -18,7 +18,7 @@ use Rattle.history.proofs.Invariant.{Reader, valuesOf, Superseded, RowO
 use Rattle.history.proofs.Moves.{each}
 use Rattle.history.proofs.Booked.{is-some, value-tag, find-row, none-found, find-uniq, uniq-drop, find-without, Written, book-max, newerₚ-none, newerₚ-cons, older-all, older-cons, upTo-whole, upTo-skip, number-at, num-old, num-new, num-none, num-case}
 use Rattle.spec.specs.Table.{Value, override, orElse, overlay}
-use Rattle.spec.specs.Calls.{cells}
+use Rattle.spec.specs.Rows.{cells}
 use borrow.Author.Tests.{eq-eqb, ne-eqb}
 
 -- What row-of says of a row.

@@ -11,7 +11,8 @@ use mathlib.Core.Option.{none, IsSome}
 use Rattle.spec.specs.Set.{clients}
 use Rattle.spec.specs.declared.Progress.the-variants.{Stage, Done}
 use Rattle.spec.specs.Answers.{Answer, Answered, Refused, notOpen}
-use Rattle.spec.specs.Calls.{cells, top}
+use Rattle.spec.specs.Numbers.{top}
+use Rattle.spec.specs.Rows.{cells}
 use Rattle.spec.specs.Run.{Call, Begin, Read, Write, Advance, Abandon, Trim, Free}
 use Rattle.spec.specs.Table.{Value, Observed}
 use Rattle.spec.specs.Right.{ReadRefusal, WriteAllowed, WriteRefusal}

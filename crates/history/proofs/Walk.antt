@@ -4,7 +4,7 @@ use Prim.Native.Nat.{ℕ, _≤_}
 use mathlib.Core.Path.{_≡_, fun-ext}
 use Rattle.spec.specs.Set.{clients}
 use Rattle.spec.specs.Image.{Image, clientsOf, zeros, empty}
-use Rattle.spec.specs.Calls.{top}
+use Rattle.spec.specs.Numbers.{top}
 use Rattle.spec.specs.Run.{Call, Begin, Read, Write, Advance, Abandon, Trim, Free, perform}
 use Rattle.history.proofs.Wellformed.{zero-at}
 use Rattle.history.proofs.Model as m

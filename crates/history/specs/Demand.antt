@@ -12,7 +12,7 @@ use Rattle.spec.specs.declared.Begun.{Begun}
 use Rattle.spec.specs.declared.Progress.{Progress}
 use Rattle.spec.specs.declared.Progress.the-variants.{Stage, Waiting, Conflict, Done}
 use Rattle.spec.specs.Answers.{Answered}
-use Rattle.spec.specs.Calls.{cells}
+use Rattle.spec.specs.Rows.{cells}
 use Rattle.spec.specs.Bytes.{limitOf, accepts, setUp, Memory}
 use Rattle.spec.specs.Run.{Call, Begin, Read, Write, Advance, Abandon, Trim, Free, step}
 use Rattle.spec.specs.Table.{Value, Values, has, Commit, Open, Table, blank, Observed}

@@ -1,10 +1,11 @@
-// Trim from the newest (document 02, ticket 4): orderly bytes are worked from the last committed row to the first, marking the cells that
-// are served; all others the old way, by trimming::trim. The rows that go are removed by removal::close_up.
+// Trim from the newest (document 02, ticket 4): orderly bytes are worked from the last committed row to the first,
+// marking the cells that are served; all others the old way, by trimming::trim. The rows that go are removed by
+// removal::close_up.
 ghost use mathlib.Core.Path.{_≡_};
 ghost use mathlib.Core.Bool.{true, false};
 ghost use Prim.Native.Nat.{_+_, _*_, _≤_, _<_};
 ghost use lib.ListN.{length, replicate};
-ghost use Rattle.spec.specs.Rows.{rowsIn};
+ghost use Rattle.spec.specs.Rows.{dataWidth, commitWidth, dataRowsIn, commitRowsIn};
 ghost use Rattle.trimming.specs.Inner.{Trimmed};
 ghost use Rattle.spec.specs.Orderly.{orderlyCommits, orderlyRows, orderly};
 ghost use Rattle.orderly.specs.Inner.{RowsLinked};
@@ -14,8 +15,9 @@ use trimming::Remaining;
 
 // ---- from the newest: see specs/Served.antt
 
-// Committed row j, where the rows behind it are done. Its data rows of cells that are marked already go, and its other cells are marked
-// with j + 1; a row numbered above low marks nothing. False where it comes to a cell above 1,023 or to one that the transaction has twice.
+// Committed row j, where the rows behind it are done. Its data rows of cells that are marked already go, and its
+// other cells are marked with j + 1; a row numbered above low marks nothing. False where it comes to a cell above
+// 1,023 or to one that the transaction has twice.
 fn serve(
     rows: &[u8],
     used: usize,
@@ -30,22 +32,26 @@ fn serve(
     flags: &mut [u8; 1024],
     uses: &mut [u8; 1024],
 ) -> bool
-    requires { ⌜ 24 * used ≤ length (now rows) ⌝ }
+    requires { ⌜ dataWidth * used ≤ length (now rows) ⌝ }
     requires { ⌜ used ≤ 1024 ⌝ }
-    requires { ⌜ 8 * entries ≤ length (now commits) ⌝ }
+    requires { ⌜ commitWidth * entries ≤ length (now commits) ⌝ }
     requires { ⌜ entries ≤ 1024 ⌝ }
-    requires { ⌜ orderlyCommits (rowsIn 8 entries (now commits)) ≡ true ⌝ }
+    requires { ⌜ orderlyCommits (commitRowsIn entries (now commits)) ≡ true ⌝ }
     requires { ⌜ j < entries ⌝ }
     requires { ⌜ RowsLinked used entries (now rows) (now commits) (now firsts) (now follows) ⌝ }
     requires { ⌜ Marks low used entries (now rows) (now commits) (j + 1) (now marks) ⌝ }
     requires { ⌜ SoFar used entries (now rows) (now commits) (j + 1) (now seen) ⌝ }
     requires { ⌜ Judged low used entries (now rows) (now commits) (j + 1) (now flags) ⌝ }
     requires { ⌜ Used low used entries (now rows) (now commits) (j + 1) (now uses) ⌝ }
-    ensures { λ r. ⌜ (r ≡ true → Marks low used entries (now (rows .entry)) (now (commits .entry)) j (now (marks .exit))) ⌝ }
-    ensures { λ r. ⌜ (r ≡ true → SoFar used entries (now (rows .entry)) (now (commits .entry)) j (now (seen .exit))) ⌝ }
-    ensures { λ r. ⌜ (r ≡ true → Judged low used entries (now (rows .entry)) (now (commits .entry)) j (now (flags .exit))) ⌝ }
-    ensures { λ r. ⌜ (r ≡ true → Used low used entries (now (rows .entry)) (now (commits .entry)) j (now (uses .exit))) ⌝ }
-    ensures { λ r. ⌜ (r ≡ false → orderlyRows (rowsIn 24 used (now (rows .entry))) ≡ false) ⌝ }
+    ensures { λ r. ⌜ (r ≡ true
+        → Marks low used entries (now (rows .entry)) (now (commits .entry)) j (now (marks .exit))) ⌝ }
+    ensures { λ r. ⌜ (r ≡ true
+        → SoFar used entries (now (rows .entry)) (now (commits .entry)) j (now (seen .exit))) ⌝ }
+    ensures { λ r. ⌜ (r ≡ true
+        → Judged low used entries (now (rows .entry)) (now (commits .entry)) j (now (flags .exit))) ⌝ }
+    ensures { λ r. ⌜ (r ≡ true
+        → Used low used entries (now (rows .entry)) (now (commits .entry)) j (now (uses .exit))) ⌝ }
+    ensures { λ r. ⌜ (r ≡ false → orderlyRows (dataRowsIn used (now (rows .entry))) ≡ false) ⌝ }
 {
     let number = rows::commit_number_at(commits, j);
     let mark = (j + 1) as u16;
@@ -86,21 +92,25 @@ fn serve_all(
     flags: &mut [u8; 1024],
     uses: &mut [u8; 1024],
 ) -> bool
-    requires { ⌜ 24 * used ≤ length (now rows) ⌝ }
+    requires { ⌜ dataWidth * used ≤ length (now rows) ⌝ }
     requires { ⌜ used ≤ 1024 ⌝ }
-    requires { ⌜ 8 * entries ≤ length (now commits) ⌝ }
+    requires { ⌜ commitWidth * entries ≤ length (now commits) ⌝ }
     requires { ⌜ entries ≤ 1024 ⌝ }
-    requires { ⌜ orderlyCommits (rowsIn 8 entries (now commits)) ≡ true ⌝ }
+    requires { ⌜ orderlyCommits (commitRowsIn entries (now commits)) ≡ true ⌝ }
     requires { ⌜ RowsLinked used entries (now rows) (now commits) (now firsts) (now follows) ⌝ }
     requires { ⌜ Marks low used entries (now rows) (now commits) entries (now marks) ⌝ }
     requires { ⌜ SoFar used entries (now rows) (now commits) entries (now seen) ⌝ }
     requires { ⌜ Judged low used entries (now rows) (now commits) entries (now flags) ⌝ }
     requires { ⌜ Used low used entries (now rows) (now commits) entries (now uses) ⌝ }
-    ensures { λ r. ⌜ (r ≡ true → Marks low used entries (now (rows .entry)) (now (commits .entry)) 0 (now (marks .exit))) ⌝ }
-    ensures { λ r. ⌜ (r ≡ true → SoFar used entries (now (rows .entry)) (now (commits .entry)) 0 (now (seen .exit))) ⌝ }
-    ensures { λ r. ⌜ (r ≡ true → Judged low used entries (now (rows .entry)) (now (commits .entry)) 0 (now (flags .exit))) ⌝ }
-    ensures { λ r. ⌜ (r ≡ true → Used low used entries (now (rows .entry)) (now (commits .entry)) 0 (now (uses .exit))) ⌝ }
-    ensures { λ r. ⌜ (r ≡ false → orderlyRows (rowsIn 24 used (now (rows .entry))) ≡ false) ⌝ }
+    ensures { λ r. ⌜ (r ≡ true
+        → Marks low used entries (now (rows .entry)) (now (commits .entry)) 0 (now (marks .exit))) ⌝ }
+    ensures { λ r. ⌜ (r ≡ true
+        → SoFar used entries (now (rows .entry)) (now (commits .entry)) 0 (now (seen .exit))) ⌝ }
+    ensures { λ r. ⌜ (r ≡ true
+        → Judged low used entries (now (rows .entry)) (now (commits .entry)) 0 (now (flags .exit))) ⌝ }
+    ensures { λ r. ⌜ (r ≡ true
+        → Used low used entries (now (rows .entry)) (now (commits .entry)) 0 (now (uses .exit))) ⌝ }
+    ensures { λ r. ⌜ (r ≡ false → orderlyRows (dataRowsIn used (now (rows .entry))) ≡ false) ⌝ }
 {
     let mut j = entries;
     while 0 < j {
@@ -126,8 +136,8 @@ fn serve_all(
     true
 }
 
-// The rows that stay, where the bytes are orderly (false where they are not): committed rows are gone through from the last to the first.
-// Marks and uses are all 0 before, flags all 1.
+// The rows that stay, where the bytes are orderly (false where they are not): committed rows are gone through from
+// the last to the first. Marks and uses are all 0 before, flags all 1.
 fn from_newest(
     rows: &[u8],
     used: usize,
@@ -138,17 +148,21 @@ fn from_newest(
     flags: &mut [u8; 1024],
     uses: &mut [u8; 1024],
 ) -> bool
-    requires { ⌜ 24 * used ≤ length (now rows) ⌝ }
+    requires { ⌜ dataWidth * used ≤ length (now rows) ⌝ }
     requires { ⌜ used ≤ 1024 ⌝ }
-    requires { ⌜ 8 * entries ≤ length (now commits) ⌝ }
+    requires { ⌜ commitWidth * entries ≤ length (now commits) ⌝ }
     requires { ⌜ entries ≤ 1024 ⌝ }
     requires { ⌜ now marks ≡ replicate 1024 0 ⌝ }
     requires { ⌜ now flags ≡ replicate 1024 1 ⌝ }
     requires { ⌜ now uses ≡ replicate 1024 0 ⌝ }
-    ensures { λ r. ⌜ r ≡ orderly (rowsIn 24 used (now (rows .entry))) (rowsIn 8 entries (now (commits .entry))) ⌝ }
-    ensures { λ r. ⌜ (r ≡ true → Marks low used entries (now (rows .entry)) (now (commits .entry)) 0 (now (marks .exit))) ⌝ }
-    ensures { λ r. ⌜ (r ≡ true → Judged low used entries (now (rows .entry)) (now (commits .entry)) 0 (now (flags .exit))) ⌝ }
-    ensures { λ r. ⌜ (r ≡ true → Used low used entries (now (rows .entry)) (now (commits .entry)) 0 (now (uses .exit))) ⌝ }
+    ensures { λ r. ⌜ r ≡ orderly (dataRowsIn used (now (rows .entry)))
+        (commitRowsIn entries (now (commits .entry))) ⌝ }
+    ensures { λ r. ⌜ (r ≡ true
+        → Marks low used entries (now (rows .entry)) (now (commits .entry)) 0 (now (marks .exit))) ⌝ }
+    ensures { λ r. ⌜ (r ≡ true
+        → Judged low used entries (now (rows .entry)) (now (commits .entry)) 0 (now (flags .exit))) ⌝ }
+    ensures { λ r. ⌜ (r ≡ true
+        → Used low used entries (now (rows .entry)) (now (commits .entry)) 0 (now (uses .exit))) ⌝ }
 {
     let none = entries as u16;
     let mut heads = [none; 4096];
@@ -189,8 +203,8 @@ fn from_newest(
     )
 }
 
-// The trim. On orderly bytes marks, which are all 0 before, show in the end which cells were marked after each committed row; all other
-// bytes are worked the old way.
+// The trim. On orderly bytes marks, which are all 0 before, show in the end which cells were marked after each
+// committed row; all other bytes are worked the old way.
 fn trim_marking(
     rows: &mut [u8],
     used: usize,
@@ -199,12 +213,13 @@ fn trim_marking(
     low: u32,
     marks: &mut [u16; 1024],
 ) -> Remaining
-    requires { ⌜ 24 * used ≤ length (now rows) ⌝ }
+    requires { ⌜ dataWidth * used ≤ length (now rows) ⌝ }
     requires { ⌜ used ≤ 1024 ⌝ }
-    requires { ⌜ 8 * entries ≤ length (now commits) ⌝ }
+    requires { ⌜ commitWidth * entries ≤ length (now commits) ⌝ }
     requires { ⌜ entries ≤ 1024 ⌝ }
     requires { ⌜ now marks ≡ replicate 1024 0 ⌝ }
-    ensures { λ r. ⌜ Trimmed low used entries (now (rows .entry)) (now (commits .entry)) (now (rows .exit)) (now (commits .exit)) (r .rows) (r .commits) ⌝ }
+    ensures { λ r. ⌜ Trimmed low used entries (now (rows .entry)) (now (commits .entry)) (now (rows .exit))
+        (now (commits .exit)) (r .rows) (r .commits) ⌝ }
     ensures { λ _. ⌜ Worked low used entries (now (rows .entry)) (now (commits .entry)) (now (marks .exit)) ⌝ }
 {
     let mut flags = [1u8; 1024];
@@ -229,14 +244,15 @@ fn trim_marking(
     trimming::trim(rows, used, commits, entries, low)
 }
 
-// Drops the data rows that newer ones up to low overtake, and then the committed rows with no data row left. Where no row is committed none
-// goes.
+// Drops the data rows that newer ones up to low overtake, and then the committed rows with no data row left. Where
+// no row is committed none goes.
 pub fn trim(rows: &mut [u8], used: usize, commits: &mut [u8], entries: usize, low: u32) -> Remaining
-    requires { ⌜ 24 * used ≤ length (now rows) ⌝ }
+    requires { ⌜ dataWidth * used ≤ length (now rows) ⌝ }
     requires { ⌜ used ≤ 1024 ⌝ }
-    requires { ⌜ 8 * entries ≤ length (now commits) ⌝ }
+    requires { ⌜ commitWidth * entries ≤ length (now commits) ⌝ }
     requires { ⌜ entries ≤ 1024 ⌝ }
-    ensures { λ r. ⌜ Trimmed low used entries (now (rows .entry)) (now (commits .entry)) (now (rows .exit)) (now (commits .exit)) (r .rows) (r .commits) ⌝ }
+    ensures { λ r. ⌜ Trimmed low used entries (now (rows .entry)) (now (commits .entry)) (now (rows .exit))
+        (now (commits .exit)) (r .rows) (r .commits) ⌝ }
 {
     if entries == 0 {
         return trimming::trim(rows, used, commits, entries, low);

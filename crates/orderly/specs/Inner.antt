@@ -6,7 +6,7 @@ use mathlib.Core.List.{List, [], _∷_}
 use lib.ListN.{length, getD}
 use lib.Dec.{eqb}
 use Rattle.spec.specs.Choice.{if_then_else_}
-use Rattle.spec.specs.Rows.{Row, rowAt, rowsIn, tagOf, cellOf, commitTag, rowsFrom}
+use Rattle.spec.specs.Rows.{dataWidth, commitWidth, dataRowsIn, commitRowsIn, Row, rowAt, tagOf, cellOf, commitTag, rowsFrom}
 use Rattle.search.specs.Inner.{Next}
 use Rattle.trimming.specs.Inner.{place}
 use mathlib.Core.Bool.{Bool, true, false}
@@ -38,7 +38,7 @@ pub record Chain (key : ℕ → ℕ) (n : ℕ) (nexts : List ℕ) (x i : ℕ) : 
 
 -- committed row k of c by its tag
 abbrev pub tagPlace : List ℕ → ℕ → ℕ
-tagPlace c k = place (commitTag (rowAt 8 k c))
+tagPlace c k = place (commitTag (rowAt commitWidth k c))
 
 -- the first committed row with that tag, as many as there are where no one has it
 unfoldable pub entryOf : ℕ → List Row → ℕ
@@ -47,7 +47,7 @@ entryOf tag (c ∷ cs) = if eqb (commitTag c) tag then 0 else suc (entryOf tag c
 
 -- data row k of s by the committed row of its tag, of m in c; m where its transaction is not committed
 abbrev pub rowEntry : ℕ → List ℕ → List ℕ → ℕ → ℕ
-rowEntry m c s k = entryOf (tagOf (rowAt 24 k s)) (rowsIn 8 m c)
+rowEntry m c s k = entryOf (tagOf (rowAt dataWidth k s)) (commitRowsIn m c)
 
 -- the data rows, all linked by their committed rows
 abbrev pub RowsLinked : ℕ → ℕ → List ℕ → List ℕ → List ℕ → List ℕ → Type 0
@@ -59,7 +59,7 @@ pairPlace x cell = (x + cell * 611) % 4096
 
 -- data row k of s by its tag and cell where its transaction is not committed; the others have no place
 abbrev pub openPlace : ℕ → List ℕ → List ℕ → ℕ → ℕ
-openPlace m entry s k = if eqb (getD entry k 0) m then pairPlace (place (tagOf (rowAt 24 k s))) (cellOf (rowAt 24 k s)) else 4096
+openPlace m entry s k = if eqb (getD entry k 0) m then pairPlace (place (tagOf (rowAt dataWidth k s))) (cellOf (rowAt dataWidth k s)) else 4096
 
 -- the committed row of each of n data rows
 pub record RowEntries (n m : ℕ) (s c entry : List ℕ) : Type 0 where
@@ -70,23 +70,23 @@ pub record RowEntries (n m : ℕ) (s c entry : List ℕ) : Type 0 where
 pub record Alike (n : ℕ) (s entry : List ℕ) : Type 0 where
   pub size : length entry ≡ 1024
   pub below : (k : ℕ) → k < n → getD entry k 0 < 65536
-  pub each : (i k : ℕ) → i < n → k < n → tagOf (rowAt 24 i s) ≡ tagOf (rowAt 24 k s) → getD entry i 0 ≡ getD entry k 0
+  pub each : (i k : ℕ) → i < n → k < n → tagOf (rowAt dataWidth i s) ≡ tagOf (rowAt dataWidth k s) → getD entry i 0 ≡ getD entry k 0
 
 -- A walk over a chain that meets every row of that tag and cell from row i on.
 pub record PairWalk (n : ℕ) (s nexts : List ℕ) (tag cell i : ℕ) : Type 0 where
   pub key : ℕ → ℕ
   pub at : ℕ
   pub chain : Chain key n nexts at i
-  pub meets : (k : ℕ) → k < n → (key k ≡ at → ⊥) → tagOf (rowAt 24 k s) ≡ tag → cellOf (rowAt 24 k s) ≡ cell → ⊥
+  pub meets : (k : ℕ) → k < n → (key k ≡ at → ⊥) → tagOf (rowAt dataWidth k s) ≡ tag → cellOf (rowAt dataWidth k s) ≡ cell → ⊥
 
 -- ---- Single data rows that are orderly, for the inner functions' promises.
 
 -- a data row of a cell below 1,024 that no later row of its tag has too
 pub record Sole (n : ℕ) (s : List ℕ) (k : ℕ) : Type 0 where
-  pub small : cellOf (rowAt 24 k s) < 1024
-  pub alone : wrote (rowsFrom 24 n (k + 1) s) (tagOf (rowAt 24 k s)) (cellOf (rowAt 24 k s)) ≡ false
+  pub small : cellOf (rowAt dataWidth k s) < 1024
+  pub alone : wrote (rowsFrom dataWidth n (k + 1) s) (tagOf (rowAt dataWidth k s)) (cellOf (rowAt dataWidth k s)) ≡ false
 
 -- What the test of the rows that are not committed says; entry has m for them. They are plain, or not all rows of s are orderly.
 pub record OpenTest (n m : ℕ) (s entry : List ℕ) (r : Bool) : Type 0 where
   pub plain : r ≡ true → (k : ℕ) → k < n → getD entry k 0 ≡ m → Sole n s k
-  pub not-plain : r ≡ false → orderlyRows (rowsIn 24 n s) ≡ false
+  pub not-plain : r ≡ false → orderlyRows (dataRowsIn n s) ≡ false

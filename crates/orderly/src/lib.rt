@@ -1,15 +1,16 @@
-// Orderly bytes (document 02, ticket 4): the tests that come before a trim from the newest, and the chains of rows that are made on the
-// way: the committed row of a tag, and the data rows of a committed row.
+// Orderly bytes (document 02, ticket 4): the tests that come before a trim from the newest, and the chains of rows
+// that are made on the way: the committed row of a tag, and the data rows of a committed row.
 ghost use mathlib.Core.Path.{_≡_};
 ghost use mathlib.Core.Bool.{true};
 ghost use Prim.Native.Nat.{_*_, _≤_, _<_};
 ghost use lib.ListN.{length, getD, replicate};
-ghost use Rattle.spec.specs.Rows.{rowAt, rowsIn, rowsFrom, commitTag};
+ghost use Rattle.spec.specs.Rows.{dataWidth, commitWidth, commitRowsIn, rowAt, rowsFrom, commitTag};
 ghost use Rattle.spec.specs.Share.{wrote};
 ghost use Rattle.search.specs.Inner.{Next};
 ghost use Rattle.trimming.specs.Inner.{place};
 ghost use Rattle.spec.specs.Orderly.{orderlyCommits};
-ghost use Rattle.orderly.specs.Inner.{tagPlace, entryOf, RowsLinked, pairPlace, Linked, Links, Chain, RowEntries, Alike, PairWalk, OpenTest};
+ghost use Rattle.orderly.specs.Inner.{tagPlace, entryOf, RowsLinked, pairPlace, Linked, Links, Chain};
+ghost use Rattle.orderly.specs.Inner.{RowEntries, Alike, PairWalk, OpenTest};
 
 // ---- chains: from each place, the rows whose key has that place, in their order
 
@@ -43,11 +44,11 @@ fn chained_entry(
     from: usize,
     tag: u32,
 ) -> usize
-    requires { ⌜ 8 * entries ≤ length (now commits) ⌝ }
+    requires { ⌜ commitWidth * entries ≤ length (now commits) ⌝ }
     requires { ⌜ entries ≤ 1024 ⌝ }
     requires { ⌜ length (now nexts) ≡ 1024 ⌝ }
     requires { ⌜ Chain (tagPlace (now commits)) entries (now nexts) (place tag) from ⌝ }
-    ensures { λ r. ⌜ Next (λ k. commitTag (rowAt 8 k (now (commits .entry))) ≡ tag) from entries r ⌝ }
+    ensures { λ r. ⌜ Next (λ k. commitTag (rowAt commitWidth k (now (commits .entry))) ≡ tag) from entries r ⌝ }
 {
     let mut i = from;
     while i < entries {
@@ -59,20 +60,21 @@ fn chained_entry(
     entries
 }
 
-// Whether the commit numbers rise and no committed tag repeats. If so, the committed rows are linked by the places of their tags on the
-// way; heads are all entries before.
+// Whether the commit numbers rise and no committed tag repeats. If so, the committed rows are linked by the places
+// of their tags on the way; heads are all entries before.
 pub fn commits_orderly(
     commits: &[u8],
     entries: usize,
     heads: &mut [u16; 4096],
     nexts: &mut [u16; 1024],
 ) -> bool
-    requires { ⌜ 8 * entries ≤ length (now commits) ⌝ }
+    requires { ⌜ commitWidth * entries ≤ length (now commits) ⌝ }
     requires { ⌜ entries ≤ 1024 ⌝ }
     requires { ⌜ now heads ≡ replicate 4096 entries ⌝ }
     requires { ⌜ length (now nexts) ≡ 1024 ⌝ }
-    ensures { λ r. ⌜ r ≡ orderlyCommits (rowsIn 8 entries (now (commits .entry))) ⌝ }
-    ensures { λ r. ⌜ (r ≡ true → Linked (tagPlace (now (commits .entry))) entries 0 (now (heads .exit)) (now (nexts .exit))) ⌝ }
+    ensures { λ r. ⌜ r ≡ orderlyCommits (commitRowsIn entries (now (commits .entry))) ⌝ }
+    ensures { λ r. ⌜ (r ≡ true
+        → Linked (tagPlace (now (commits .entry))) entries 0 (now (heads .exit)) (now (nexts .exit))) ⌝ }
 {
     let mut above = 4294967296;
     let mut i = entries;
@@ -102,10 +104,10 @@ fn entry_of(
     nexts: &[u16; 1024],
     tag: u32,
 ) -> usize
-    requires { ⌜ 8 * entries ≤ length (now commits) ⌝ }
+    requires { ⌜ commitWidth * entries ≤ length (now commits) ⌝ }
     requires { ⌜ entries ≤ 1024 ⌝ }
     requires { ⌜ Linked (tagPlace (now commits)) entries 0 (now heads) (now nexts) ⌝ }
-    ensures { λ r. ⌜ r ≡ entryOf tag (rowsIn 8 entries (now (commits .entry))) ⌝ }
+    ensures { λ r. ⌜ r ≡ entryOf tag (commitRowsIn entries (now (commits .entry))) ⌝ }
 {
     let x = trimming::place_of(tag);
     chained_entry(commits, entries, nexts, heads[x] as usize, tag)
@@ -121,11 +123,11 @@ fn entry_again(
     entry: usize,
     tag: u32,
 ) -> usize
-    requires { ⌜ 8 * entries ≤ length (now commits) ⌝ }
+    requires { ⌜ commitWidth * entries ≤ length (now commits) ⌝ }
     requires { ⌜ entries ≤ 1024 ⌝ }
     requires { ⌜ Linked (tagPlace (now commits)) entries 0 (now heads) (now nexts) ⌝ }
-    requires { ⌜ entry ≡ entryOf last (rowsIn 8 entries (now commits)) ⌝ }
-    ensures { λ r. ⌜ r ≡ entryOf tag (rowsIn 8 entries (now (commits .entry))) ⌝ }
+    requires { ⌜ entry ≡ entryOf last (commitRowsIn entries (now commits)) ⌝ }
+    ensures { λ r. ⌜ r ≡ entryOf tag (commitRowsIn entries (now (commits .entry))) ⌝ }
 {
     if tag == last {
         return entry;
@@ -144,15 +146,16 @@ pub fn link_rows(
     firsts: &mut [u16; 4096],
     follows: &mut [u16; 1024],
 ) -> [u16; 1024]
-    requires { ⌜ 24 * used ≤ length (now rows) ⌝ }
+    requires { ⌜ dataWidth * used ≤ length (now rows) ⌝ }
     requires { ⌜ used ≤ 1024 ⌝ }
-    requires { ⌜ 8 * entries ≤ length (now commits) ⌝ }
+    requires { ⌜ commitWidth * entries ≤ length (now commits) ⌝ }
     requires { ⌜ entries ≤ 1024 ⌝ }
     requires { ⌜ Linked (tagPlace (now commits)) entries 0 (now heads) (now nexts) ⌝ }
     requires { ⌜ now firsts ≡ replicate 4096 used ⌝ }
     requires { ⌜ length (now follows) ≡ 1024 ⌝ }
     ensures { λ r. ⌜ RowEntries used entries (now (rows .entry)) (now (commits .entry)) r ⌝ }
-    ensures { λ _. ⌜ RowsLinked used entries (now (rows .entry)) (now (commits .entry)) (now (firsts .exit)) (now (follows .exit)) ⌝ }
+    ensures { λ _. ⌜ RowsLinked used entries (now (rows .entry)) (now (commits .entry)) (now (firsts .exit))
+        (now (follows .exit)) ⌝ }
 {
     let mut entry = [0u16; 1024];
     let mut last = 0;
@@ -181,11 +184,11 @@ fn own_chained(
     tag: u32,
     cell: u32,
 ) -> bool
-    requires { ⌜ 24 * used ≤ length (now rows) ⌝ }
+    requires { ⌜ dataWidth * used ≤ length (now rows) ⌝ }
     requires { ⌜ used ≤ 1024 ⌝ }
     requires { ⌜ length (now nexts) ≡ 1024 ⌝ }
     requires { ⌜ PairWalk used (now rows) (now nexts) tag cell from ⌝ }
-    ensures { λ r. ⌜ r ≡ wrote (rowsFrom 24 used from (now (rows .entry))) tag cell ⌝ }
+    ensures { λ r. ⌜ r ≡ wrote (rowsFrom dataWidth used from (now (rows .entry))) tag cell ⌝ }
 {
     let mut i = from;
     while i < used {
@@ -199,10 +202,10 @@ fn own_chained(
     false
 }
 
-// Whether all rows that are not committed have cells below 1,024, and none that its tag has again. entry has the committed row of each row,
-// entries for none; first is the first row with none.
+// Whether all rows that are not committed have cells below 1,024, and none that its tag has again. entry has the
+// committed row of each row, entries for none; first is the first row with none.
 fn open_plain(rows: &[u8], used: usize, entries: usize, entry: &[u16; 1024], first: usize) -> bool
-    requires { ⌜ 24 * used ≤ length (now rows) ⌝ }
+    requires { ⌜ dataWidth * used ≤ length (now rows) ⌝ }
     requires { ⌜ used ≤ 1024 ⌝ }
     requires { ⌜ Alike used (now rows) (now entry) ⌝ }
     requires { ⌜ Next (λ k. getD (now entry) k 0 ≡ entries) 0 used first ⌝ }
@@ -241,7 +244,7 @@ pub fn open_plain_from(
     entry: &[u16; 1024],
     first: usize,
 ) -> bool
-    requires { ⌜ 24 * used ≤ length (now rows) ⌝ }
+    requires { ⌜ dataWidth * used ≤ length (now rows) ⌝ }
     requires { ⌜ used ≤ 1024 ⌝ }
     requires { ⌜ Alike used (now rows) (now entry) ⌝ }
     requires { ⌜ Next (λ k. getD (now entry) k 0 ≡ entries) 0 used first ⌝ }

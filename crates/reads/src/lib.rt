@@ -2,9 +2,10 @@
 ghost use mathlib.Core.Path.{_≡_};
 ghost use Rattle.spec.specs.Answers.{readOf};
 ghost use Rattle.spec.specs.Calls.{read};
-ghost use Rattle.spec.specs.Bytes.{afterOf, onBytes};
+ghost use Rattle.spec.specs.Bytes.{memoryOf, Performs, onBytes};
 ghost use Rattle.spec.specs.Values.{valueRead, valueFrom};
 use spec::CELLS;
+use spec::DATA_ROW;
 use spec::LIMIT;
 use spec::Lookup;
 use spec::ReadAnswer;
@@ -22,9 +23,12 @@ fn no_read(store: Store, refusal: Refusal) -> ReadTurn
     }
 }
 
-// Read answers in which data row the value stands: `value` hands its sixteen bytes back. It answers until the commit is made, at stage 12.
+// Read answers in which data row the value stands: `value` hands its sixteen bytes back. It answers until the
+// commit is made, at stage 12.
 pub fn read(store: Store, rows: &[u8], commits: &[u8], client: u32, cell: u32) -> ReadTurn
-    ensures { λ r. ⌜ afterOf (r .store) (now (rows .entry)) (now (commits .entry)) (readOf (r .answer)) ≡ onBytes (read client cell) store (now (rows .entry)) (now (commits .entry)) ⌝ }
+    ensures { λ r. ⌜ Performs (read client cell)
+        (memoryOf store (now (rows .entry)) (now (commits .entry)))
+        (memoryOf (r .store) (now (rows .entry)) (now (commits .entry))) (readOf (r .answer)) ⌝ }
 {
     if !record::fit(store, rows.len(), commits.len()) {
         return no_read(store, Refusal::Unfit);
@@ -66,15 +70,17 @@ pub fn read(store: Store, rows: &[u8], commits: &[u8], client: u32, cell: u32) -
 pub fn value<'a>(rows: &'a [u8], at: usize) -> &'a [u8]
     ensures { λ r. ⌜ now r ≡ valueRead at (now (rows .entry)) ⌝ }
 {
-    if rows.len() / 24 <= at {
+    if rows.len() / DATA_ROW <= at {
         return &rows[0..0];
     }
     rows::value_at(rows, at)
 }
 
-// The sixteen bytes that a read finds, as they stand in the data buffer; none where it is refused or the cell is unwritten.
+// The sixteen bytes that a read finds, as they stand in the data buffer; none where it is refused or the cell is
+// unwritten.
 pub fn lookup<'a>(store: Store, rows: &'a [u8], commits: &[u8], client: u32, cell: u32) -> &'a [u8]
-    ensures { λ r. ⌜ now r ≡ valueFrom (now (rows .entry)) (onBytes (read client cell) store (now (rows .entry)) (now (commits .entry)) .answer) ⌝ }
+    ensures { λ r. ⌜ now r ≡ valueFrom (now (rows .entry))
+        (onBytes (read client cell) store (now (rows .entry)) (now (commits .entry)) .answer) ⌝ }
 {
     let turn = read(store, rows, commits, client, cell);
     let answer = turn.answer;

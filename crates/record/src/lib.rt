@@ -7,12 +7,14 @@ ghost use lib.ListN.{getD};
 ghost use Prim.Native.Nat.{ℕ, _<_};
 ghost use Rattle.spec.specs.Set.{clients, collect, strike};
 ghost use Rattle.spec.specs.Choice.{if_then_else_};
-ghost use Rattle.spec.specs.Numbers.{smallest};
-ghost use Rattle.spec.specs.Image.{cleared, closed, empty, Image};
-ghost use Rattle.spec.specs.Calls.{readers, low};
+ghost use Rattle.spec.specs.Image.{cleared, closed, empty};
+ghost use Rattle.spec.specs.Calls.{low};
 ghost use Rattle.spec.specs.Steps.{queued, struck};
+ghost use Rattle.record.specs.Inner.{SmallestOpen};
 ghost use Rattle.spec.specs.Bytes.{countersIn, clientsIn, recordOf, decode, storeOf, known, fits, limitOf, accepts};
 use spec::CLIENTS;
+use spec::COMMIT_ROW;
+use spec::DATA_ROW;
 use spec::FigureAnswer;
 use spec::FigureTurn;
 use spec::LIMIT;
@@ -47,10 +49,10 @@ pub fn fit(store: Store, d: usize, c: usize) -> bool
         return false;
     }
     let wide = rows as usize;
-    if d != 24 * wide {
+    if d != DATA_ROW * wide {
         return false;
     }
-    if c != 8 * wide {
+    if c != COMMIT_ROW * wide {
         return false;
     }
     if rows < store.used {
@@ -101,7 +103,8 @@ pub fn clear_all(lists: [Set; CLIENTS], client: u32) -> [Set; CLIENTS]
 // The client closed: its fields zero, and its bit cleared in each waiting list.
 pub fn close(store: Store, client: u32) -> Store
     requires { ⌜ client < clients ⌝ }
-    ensures { λ r. ⌜ r ≡ recordOf (store .rows) (store .limit) (countersIn store) (closed client (clientsIn store)) (store .used) (store .entries) ⌝ }
+    ensures { λ r. ⌜ r ≡ recordOf (store .rows) (store .limit) (countersIn store) (closed client (clientsIn store))
+        (store .used) (store .entries) ⌝ }
 {
     let k = client as usize;
     let mut stages = store.stage;
@@ -177,7 +180,8 @@ pub fn look(
     number: &[u32; CLIENTS],
     list: Set,
 ) -> Set
-    ensures { λ r. ⌜ r ≡ strike (λ j. struck queue own (getD (now (stage .entry)) j 0) (getD (now (number .entry)) j 0)) list clients ⌝ }
+    ensures { λ r. ⌜ r ≡ strike
+        (λ j. struck queue own (getD (now (stage .entry)) j 0) (getD (now (number .entry)) j 0)) list clients ⌝ }
 {
     if list == 0 {
         return 0;
@@ -197,8 +201,8 @@ pub fn look(
 pub fn acceptable(d: usize, c: usize, first: u32, limit: u32) -> bool
     ensures { λ r. ⌜ r ≡ accepts d c first limit ⌝ }
 {
-    let n = d / 24;
-    if d != 24 * n {
+    let n = d / DATA_ROW;
+    if d != DATA_ROW * n {
         return false;
     }
     if n < 1 {
@@ -207,7 +211,7 @@ pub fn acceptable(d: usize, c: usize, first: u32, limit: u32) -> bool
     if 1024 < n {
         return false;
     }
-    if c != 8 * n {
+    if c != COMMIT_ROW * n {
         return false;
     }
     if first == 0 {
@@ -240,7 +244,7 @@ fn reader(number: u32, snapshot: u32) -> Number
 
 // The smallest snapshot of open transactions, in every image with these columns.
 fn smallest_open(numbers: &[u32; CLIENTS], snapshots: &[u32; CLIENTS]) -> Number
-    ensures { λ r. ⌜ ((x : Image) → x .clients .number ≡ now (numbers .entry) → x .clients .snapshot ≡ now (snapshots .entry) → r ≡ smallest (readers x clients)) ⌝ }
+    ensures { λ r. ⌜ SmallestOpen (now (numbers .entry)) (now (snapshots .entry)) r ⌝ }
 {
     let mut best = Number::None;
     for i in 0..CLIENTS {

@@ -1,13 +1,13 @@
 -- What the contracts of inner functions need beyond the words of the papers: nobody has to believe it.
 -- Assumes nothing.
-use Prim.Native.Nat.{ℕ, _+_, _<_}
+use Prim.Native.Nat.{ℕ, _+_, _*_, _<_}
 use mathlib.Core.Path.{_≡_}
 use mathlib.Core.Bool.{Bool, not}
-use mathlib.Core.List.{List, [], _∷_}
-use lib.ListN.{length, getD}
+use mathlib.Core.List.{List, [], _∷_, _++_, flatten}
+use lib.ListN.{length, getD, drop}
 use lib.Dec.{eqb}
 use Rattle.spec.specs.Choice.{if_then_else_}
-use Rattle.spec.specs.Rows.{Row, rowAt, layout, hasTag}
+use Rattle.spec.specs.Rows.{rowsIn, Row, rowAt, layout, hasTag}
 
 -- ---- Rows that are kept by flags, for the inner functions' promises.
 
@@ -29,3 +29,11 @@ pub record Flags (p : Row → Bool) (w n : ℕ) (s flags : List ℕ) : Type 0 wh
 pub record Left (w n : ℕ) (rs : List Row) (s s′ : List ℕ) (n′ : ℕ) : Type 0 where
   pub rows : n′ ≡ length rs
   pub bytes : s′ ≡ layout w n rs s
+
+-- of n rows of width w in s, the r whose flag is not 0 have come to the front of s′, and the bytes from row r on are as they were
+abbrev pub InFront : ℕ → ℕ → List ℕ → List ℕ → List ℕ → ℕ → Type 0
+InFront w n flags s s′ r = s′ ≡ flatten (keptFrom flags 0 (rowsIn w n s)) ++ drop (w * r) s
+
+-- the others are gone
+abbrev pub FlaggedLeft : ℕ → ℕ → List ℕ → List ℕ → List ℕ → ℕ → Type 0
+FlaggedLeft w n flags s s′ r = Left w n (keptFrom flags 0 (rowsIn w n s)) s s′ r

@@ -1,12 +1,11 @@
 // Removing rows: the one compaction for Abandon, Conflict and Trim, and the removal of a transaction's rows.
 ghost use mathlib.Core.Path.{_≡_};
-ghost use mathlib.Core.List.{_++_, flatten};
 ghost use Prim.Native.Nat.{ℕ, _+_, _*_, _≤_, _<_};
-ghost use lib.ListN.{length, getD, drop};
+ghost use lib.ListN.{length, getD};
 ghost use Rattle.spec.specs.Choice.{if_then_else_};
-ghost use Rattle.spec.specs.Rows.{part, spliced, rowAt, rowsIn, tagOf, filter};
+ghost use Rattle.spec.specs.Rows.{dataWidth, dataRowsIn, part, spliced, rowAt, rowsIn, tagOf, filter};
 ghost use Rattle.search.specs.Inner.{Next};
-ghost use Rattle.removal.specs.Inner.{keptFrom, otherTag, Flags, Left};
+ghost use Rattle.removal.specs.Inner.{InFront, FlaggedLeft, keptFrom, otherTag, Flags, Left};
 
 // ---- the compaction
 
@@ -47,14 +46,15 @@ fn move_row(buf: &mut [u8], words: usize, from: usize, to: usize)
     }
 }
 
-// Moves the rows whose flag is not 0 to the front, in their order, and returns how many they are. All rows before first stay.
+// Moves the rows whose flag is not 0 to the front, in their order, and returns how many they are. All rows before
+// first stay.
 fn keep_rows(buf: &mut [u8], words: usize, first: usize, used: usize, flags: &[u8; 1024]) -> usize
     requires { ⌜ 8 * words * used ≤ length (now buf) ⌝ }
     requires { ⌜ used ≤ 1024 ⌝ }
     requires { ⌜ first ≤ used ⌝ }
     requires { ⌜ ((k : ℕ) → k < first → getD (now flags) k 0 ≡ 0 → ⊥) ⌝ }
     ensures { λ r. ⌜ r ≡ length (keptFrom (now (flags .entry)) 0 (rowsIn (8 * words) used (now (buf .entry)))) ⌝ }
-    ensures { λ r. ⌜ now (buf .exit) ≡ flatten (keptFrom (now (flags .entry)) 0 (rowsIn (8 * words) used (now (buf .entry)))) ++ drop (8 * words * r) (now (buf .entry)) ⌝ }
+    ensures { λ r. ⌜ InFront (8 * words) used (now (flags .entry)) (now (buf .entry)) (now (buf .exit)) r ⌝ }
 {
     let mut to = first;
     let mut i = first;
@@ -68,13 +68,14 @@ fn keep_rows(buf: &mut [u8], words: usize, first: usize, used: usize, flags: &[u
     to
 }
 
-// Removes the rows whose flag is 0: the others close up in their order, and the freed bytes become zero. Returns how many are left.
+// Removes the rows whose flag is 0: the others close up in their order, and the freed bytes become zero. Returns
+// how many are left.
 fn compact(buf: &mut [u8], words: usize, first: usize, used: usize, flags: &[u8; 1024]) -> usize
     requires { ⌜ 8 * words * used ≤ length (now buf) ⌝ }
     requires { ⌜ used ≤ 1024 ⌝ }
     requires { ⌜ first < used ⌝ }
     requires { ⌜ ((k : ℕ) → k < first → getD (now flags) k 0 ≡ 0 → ⊥) ⌝ }
-    ensures { λ r. ⌜ Left (8 * words) used (keptFrom (now (flags .entry)) 0 (rowsIn (8 * words) used (now (buf .entry)))) (now (buf .entry)) (now (buf .exit)) r ⌝ }
+    ensures { λ r. ⌜ FlaggedLeft (8 * words) used (now (flags .entry)) (now (buf .entry)) (now (buf .exit)) r ⌝ }
 {
     let left = keep_rows(buf, words, first, used, flags);
     let from = 8 * words * left;
@@ -102,7 +103,7 @@ fn first_gone(flags: &[u8; 1024], used: usize) -> usize
 pub fn close_up(buf: &mut [u8], words: usize, used: usize, flags: &[u8; 1024]) -> usize
     requires { ⌜ 8 * words * used ≤ length (now buf) ⌝ }
     requires { ⌜ used ≤ 1024 ⌝ }
-    ensures { λ r. ⌜ Left (8 * words) used (keptFrom (now (flags .entry)) 0 (rowsIn (8 * words) used (now (buf .entry)))) (now (buf .entry)) (now (buf .exit)) r ⌝ }
+    ensures { λ r. ⌜ FlaggedLeft (8 * words) used (now (flags .entry)) (now (buf .entry)) (now (buf .exit)) r ⌝ }
 {
     let first = first_gone(flags, used);
     if first == used {
@@ -114,19 +115,19 @@ pub fn close_up(buf: &mut [u8], words: usize, used: usize, flags: &[u8; 1024]) -
 // ---- a transaction's rows
 
 fn other_tag(rows: &[u8], i: usize, tag: u32) -> u8
-    requires { ⌜ 24 * i + 24 ≤ length (now rows) ⌝ }
-    ensures { λ r. ⌜ r ≡ (if otherTag tag (rowAt 24 i (now (rows .entry))) then 1 else 0) ⌝ }
+    requires { ⌜ dataWidth * i + 24 ≤ length (now rows) ⌝ }
+    ensures { λ r. ⌜ r ≡ (if otherTag tag (rowAt dataWidth i (now (rows .entry))) then 1 else 0) ⌝ }
 {
     if rows::tag_at(rows, i) == tag { 0 } else { 1 }
 }
 
 // Flags for the data rows of other transactions; all rows before first are such.
 fn other_flags(rows: &[u8], first: usize, used: usize, tag: u32) -> [u8; 1024]
-    requires { ⌜ 24 * used ≤ length (now rows) ⌝ }
+    requires { ⌜ dataWidth * used ≤ length (now rows) ⌝ }
     requires { ⌜ used ≤ 1024 ⌝ }
     requires { ⌜ first ≤ used ⌝ }
-    requires { ⌜ ((k : ℕ) → k < first → tagOf (rowAt 24 k (now rows)) ≡ tag → ⊥) ⌝ }
-    ensures { λ r. ⌜ Flags (otherTag tag) 24 used (now (rows .entry)) r ⌝ }
+    requires { ⌜ ((k : ℕ) → k < first → tagOf (rowAt dataWidth k (now rows)) ≡ tag → ⊥) ⌝ }
+    ensures { λ r. ⌜ Flags (otherTag tag) dataWidth used (now (rows .entry)) r ⌝ }
 {
     let mut flags = [1u8; 1024];
     let mut i = first;
@@ -139,9 +140,10 @@ fn other_flags(rows: &[u8], first: usize, used: usize, tag: u32) -> [u8; 1024]
 
 // Removes all data rows of a transaction, and returns how many rows are left.
 pub fn remove_rows(rows: &mut [u8], used: usize, tag: u32) -> usize
-    requires { ⌜ 24 * used ≤ length (now rows) ⌝ }
+    requires { ⌜ dataWidth * used ≤ length (now rows) ⌝ }
     requires { ⌜ used ≤ 1024 ⌝ }
-    ensures { λ r. ⌜ Left 24 used (filter (otherTag tag) (rowsIn 24 used (now (rows .entry)))) (now (rows .entry)) (now (rows .exit)) r ⌝ }
+    ensures { λ r. ⌜ Left dataWidth used (filter (otherTag tag) (dataRowsIn used (now (rows .entry))))
+        (now (rows .entry)) (now (rows .exit)) r ⌝ }
 {
     let first = search::next_tag(rows, 0, used, tag);
     if first == used {

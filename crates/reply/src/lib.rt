@@ -13,7 +13,8 @@ ghost use mathlib.Core.List.{[], _++_};
 ghost use Prim.Native.Nat.{_+_, _≤_};
 ghost use lib.ListN.{length};
 ghost use Rattle.spec.specs.Answers.{code, figureOf, beginOf, readOf, advanceOf};
-ghost use Rattle.spec.specs.Text.{str, numbered, headText, lineText, answerText, freeText, droppedText, begunText, readingText, progressText, refusedText, hexText};
+ghost use Rattle.spec.specs.Text.{str, numbered, headText, lineText, answerText, freeText, droppedText, begunText};
+ghost use Rattle.spec.specs.Text.{readingText, progressText, refusedText, hexText};
 ghost use Rattle.text.specs.Inner.{Put};
 
 // Document 01's number of a refusal; 11 is unused.
@@ -35,12 +36,14 @@ pub fn code_of(r: Refusal) -> u32
     }
 }
 
-// ---- the head of a line: as in crate text, each function appends to the text that ends at a place, and answers where the text ends now
+// ---- the head of a line: as in crate text, each function appends to the text that ends at a place, and answers
+// where the text ends now
 
 // A word, a number and an end.
 fn put_numbered(out: &mut [u8], at: usize, word: &[u8], n: u32, end: &[u8]) -> usize
     requires { ⌜ at + length (now word) + 10 + length (now end) ≤ length (now out) ⌝ }
-    ensures { λ r. ⌜ Put (now (out .entry)) at (numbered (now (word .entry)) n (now (end .entry))) (now (out .exit)) r ⌝ }
+    ensures { λ r. ⌜ Put (now (out .entry)) at (numbered (now (word .entry)) n (now (end .entry))) (now (out .exit))
+        r ⌝ }
     ensures { λ r. ⌜ r ≤ at + length (now (word .entry)) + 10 + length (now (end .entry)) ⌝ }
 {
     let a = text::put(out, at, word);
@@ -60,7 +63,8 @@ fn put_client(out: &mut [u8], at: usize, word: &[u8], client: u32) -> usize
 // A keyword, a client and a cell.
 fn put_cell(out: &mut [u8], at: usize, word: &[u8], client: u32, cell: u32) -> usize
     requires { ⌜ at + length (now word) + 22 ≤ length (now out) ⌝ }
-    ensures { λ r. ⌜ Put (now (out .entry)) at (numbered (now (word .entry)) client (str " ") ++ numbered [] cell (str " ")) (now (out .exit)) r ⌝ }
+    ensures { λ r. ⌜ Put (now (out .entry)) at
+        (numbered (now (word .entry)) client (str " ") ++ numbered [] cell (str " ")) (now (out .exit)) r ⌝ }
     ensures { λ r. ⌜ r ≤ at + length (now (word .entry)) + 22 ⌝ }
 {
     let a = put_client(out, at, word, client);
@@ -100,7 +104,8 @@ fn put_head(out: &mut [u8], at: usize, form: Form) -> usize
 fn number_line(out: &mut [u8], at: usize, form: Form, word: &[u8], n: u32) -> usize
     requires { ⌜ at + 90 ≤ length (now out) ⌝ }
     requires { ⌜ length (now word) ≤ 10 ⌝ }
-    ensures { λ r. ⌜ Put (now (out .entry)) at (lineText form (numbered (now (word .entry)) n (str ")"))) (now (out .exit)) r ⌝ }
+    ensures { λ r. ⌜ Put (now (out .entry)) at (lineText form (numbered (now (word .entry)) n (str ")"))) (now
+        (out .exit)) r ⌝ }
     ensures { λ r. ⌜ r ≤ at + 90 ⌝ }
 {
     let a = put_head(out, at, form);
@@ -122,7 +127,8 @@ fn open_line(out: &mut [u8], at: usize, form: Form, begun: Begun) -> usize
 fn value_line(out: &mut [u8], at: usize, form: Form, value: &[u8]) -> usize
     requires { ⌜ at + 90 ≤ length (now out) ⌝ }
     requires { ⌜ length (now value) ≤ 16 ⌝ }
-    ensures { λ r. ⌜ Put (now (out .entry)) at (lineText form (str "(value " ++ (hexText (now (value .entry)) ++ str ")"))) (now (out .exit)) r ⌝ }
+    ensures { λ r. ⌜ Put (now (out .entry)) at
+        (lineText form (str "(value " ++ (hexText (now (value .entry)) ++ str ")"))) (now (out .exit)) r ⌝ }
     ensures { λ r. ⌜ r ≤ at + 90 ⌝ }
 {
     let a = put_head(out, at, form);
@@ -143,7 +149,8 @@ pub fn refused_line(out: &mut [u8], at: usize, form: Form, number: u32) -> usize
 
 pub fn free_line(out: &mut [u8], at: usize, form: Form, answer: FigureAnswer) -> usize
     requires { ⌜ at + 90 ≤ length (now out) ⌝ }
-    ensures { λ r. ⌜ Put (now (out .entry)) at (lineText form (answerText freeText (figureOf answer))) (now (out .exit)) r ⌝ }
+    ensures { λ r. ⌜ Put (now (out .entry)) at (lineText form (answerText freeText (figureOf answer)))
+        (now (out .exit)) r ⌝ }
     ensures { λ r. ⌜ r ≤ at + 90 ⌝ }
 {
     match answer {
@@ -154,7 +161,8 @@ pub fn free_line(out: &mut [u8], at: usize, form: Form, answer: FigureAnswer) ->
 
 pub fn dropped_line(out: &mut [u8], at: usize, form: Form, answer: FigureAnswer) -> usize
     requires { ⌜ at + 90 ≤ length (now out) ⌝ }
-    ensures { λ r. ⌜ Put (now (out .entry)) at (lineText form (answerText droppedText (figureOf answer))) (now (out .exit)) r ⌝ }
+    ensures { λ r. ⌜ Put (now (out .entry)) at (lineText form (answerText droppedText (figureOf answer)))
+        (now (out .exit)) r ⌝ }
     ensures { λ r. ⌜ r ≤ at + 90 ⌝ }
 {
     match answer {
@@ -165,7 +173,8 @@ pub fn dropped_line(out: &mut [u8], at: usize, form: Form, answer: FigureAnswer)
 
 pub fn begun_line(out: &mut [u8], at: usize, form: Form, answer: BeginAnswer) -> usize
     requires { ⌜ at + 90 ≤ length (now out) ⌝ }
-    ensures { λ r. ⌜ Put (now (out .entry)) at (lineText form (answerText begunText (beginOf answer))) (now (out .exit)) r ⌝ }
+    ensures { λ r. ⌜ Put (now (out .entry)) at (lineText form (answerText begunText (beginOf answer)))
+        (now (out .exit)) r ⌝ }
     ensures { λ r. ⌜ r ≤ at + 90 ⌝ }
 {
     match answer {
@@ -184,7 +193,8 @@ pub fn reading_line(
 ) -> usize
     requires { ⌜ at + 90 ≤ length (now out) ⌝ }
     requires { ⌜ length (now value) ≤ 16 ⌝ }
-    ensures { λ r. ⌜ Put (now (out .entry)) at (lineText form (answerText (readingText (now (value .entry))) (readOf answer))) (now (out .exit)) r ⌝ }
+    ensures { λ r. ⌜ Put (now (out .entry)) at
+        (lineText form (answerText (readingText (now (value .entry))) (readOf answer))) (now (out .exit)) r ⌝ }
     ensures { λ r. ⌜ r ≤ at + 90 ⌝ }
 {
     match answer {
@@ -201,7 +211,8 @@ pub fn reading_line(
 
 pub fn progress_line(out: &mut [u8], at: usize, form: Form, answer: AdvanceAnswer) -> usize
     requires { ⌜ at + 90 ≤ length (now out) ⌝ }
-    ensures { λ r. ⌜ Put (now (out .entry)) at (lineText form (answerText progressText (advanceOf answer))) (now (out .exit)) r ⌝ }
+    ensures { λ r. ⌜ Put (now (out .entry)) at (lineText form (answerText progressText (advanceOf answer)))
+        (now (out .exit)) r ⌝ }
     ensures { λ r. ⌜ r ≤ at + 90 ⌝ }
 {
     match answer {

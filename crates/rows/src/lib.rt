@@ -1,9 +1,12 @@
 // Rows of fixed width in byte buffers: fields, new rows, a value replaced.
 ghost use mathlib.Core.Path.{_≡_};
-ghost use mathlib.Core.List.{[], _∷_, _++_};
-ghost use Prim.Native.Nat.{ℕ, _+_, _*_, _≤_, _<_};
-ghost use lib.ListN.{length, getD, set, replicate};
-ghost use Rattle.spec.specs.Rows.{part, spliced, number, bytesOf, dataRow, tagOf, cellOf, valueOf, withValue, commitRow, commitNumber, commitTag, rowAt, rowsIn, layout};
+ghost use Prim.Native.Nat.{_+_, _*_, _≤_, _<_};
+ghost use lib.ListN.{length, replicate};
+ghost use Rattle.rows.specs.Inner.{RowAdded, ValueReplaced};
+ghost use Rattle.spec.specs.Rows.{dataWidth, commitWidth, part, spliced, number, bytesOf, dataRow, tagOf, cellOf};
+ghost use Rattle.spec.specs.Rows.{valueOf, commitRow, commitNumber, commitTag, rowAt};
+use spec::COMMIT_ROW;
+use spec::DATA_ROW;
 
 fn wide(x: u8) -> u32
     ensures { λ r. ⌜ (r ≡ x) × (r < 256) ⌝ }
@@ -64,41 +67,41 @@ pub fn clear(buf: &mut [u8])
 // ---- fields of row i
 
 pub fn tag_at(rows: &[u8], i: usize) -> u32
-    requires { ⌜ 24 * i + 24 ≤ length (now rows) ⌝ }
-    ensures { λ r. ⌜ r ≡ tagOf (rowAt 24 i (now (rows .entry))) ⌝ }
+    requires { ⌜ dataWidth * i + 24 ≤ length (now rows) ⌝ }
+    ensures { λ r. ⌜ r ≡ tagOf (rowAt dataWidth i (now (rows .entry))) ⌝ }
 {
-    u32_at(rows, 24 * i)
+    u32_at(rows, DATA_ROW * i)
 }
 
 pub fn cell_at(rows: &[u8], i: usize) -> u32
-    requires { ⌜ 24 * i + 24 ≤ length (now rows) ⌝ }
-    ensures { λ r. ⌜ r ≡ cellOf (rowAt 24 i (now (rows .entry))) ⌝ }
+    requires { ⌜ dataWidth * i + 24 ≤ length (now rows) ⌝ }
+    ensures { λ r. ⌜ r ≡ cellOf (rowAt dataWidth i (now (rows .entry))) ⌝ }
 {
-    u16_at(rows, 24 * i + 4)
+    u16_at(rows, DATA_ROW * i + 4)
 }
 
 // The value, as it stands in the buffer.
 pub fn value_at<'a>(rows: &'a [u8], i: usize) -> &'a [u8]
-    requires { ⌜ 24 * i + 24 ≤ length (now rows) ⌝ }
-    ensures { λ r. ⌜ now r ≡ valueOf (rowAt 24 i (now (rows .entry))) ⌝ }
+    requires { ⌜ dataWidth * i + 24 ≤ length (now rows) ⌝ }
+    ensures { λ r. ⌜ now r ≡ valueOf (rowAt dataWidth i (now (rows .entry))) ⌝ }
 {
-    let from = 24 * i + 8;
+    let from = DATA_ROW * i + 8;
     let end = from + 16;
     &rows[from..end]
 }
 
 pub fn commit_number_at(commits: &[u8], i: usize) -> u32
-    requires { ⌜ 8 * i + 8 ≤ length (now commits) ⌝ }
-    ensures { λ r. ⌜ r ≡ commitNumber (rowAt 8 i (now (commits .entry))) ⌝ }
+    requires { ⌜ commitWidth * i + 8 ≤ length (now commits) ⌝ }
+    ensures { λ r. ⌜ r ≡ commitNumber (rowAt commitWidth i (now (commits .entry))) ⌝ }
 {
-    u32_at(commits, 8 * i)
+    u32_at(commits, COMMIT_ROW * i)
 }
 
 pub fn commit_tag_at(commits: &[u8], i: usize) -> u32
-    requires { ⌜ 8 * i + 8 ≤ length (now commits) ⌝ }
-    ensures { λ r. ⌜ r ≡ commitTag (rowAt 8 i (now (commits .entry))) ⌝ }
+    requires { ⌜ commitWidth * i + 8 ≤ length (now commits) ⌝ }
+    ensures { λ r. ⌜ r ≡ commitTag (rowAt commitWidth i (now (commits .entry))) ⌝ }
 {
-    u32_at(commits, 8 * i + 4)
+    u32_at(commits, COMMIT_ROW * i + 4)
 }
 
 // ---- new rows
@@ -117,12 +120,13 @@ fn write_row(row: &mut [u8], tag: u32, cell: u32, value: &[u8])
 
 // Writes a data row directly behind the used ones: the part from the used end is lent on.
 pub fn append_row(rows: &mut [u8], used: usize, tag: u32, cell: u32, value: &[u8])
-    requires { ⌜ 24 * used + 24 ≤ length (now rows) ⌝ }
+    requires { ⌜ dataWidth * used + 24 ≤ length (now rows) ⌝ }
     requires { ⌜ cell < 65536 ⌝ }
     requires { ⌜ length (now value) ≡ 16 ⌝ }
-    ensures { λ _. ⌜ now (rows .exit) ≡ layout 24 used (rowsIn 24 used (now (rows .entry)) ++ (dataRow tag cell (now (value .entry)) ∷ [])) (now (rows .entry)) ⌝ }
+    ensures { λ _. ⌜ RowAdded dataWidth used (dataRow tag cell (now (value .entry))) (now (rows .entry))
+        (now (rows .exit)) ⌝ }
 {
-    let end = 24 * used;
+    let end = DATA_ROW * used;
     write_row(&mut rows[end..], tag, cell, value);
 }
 
@@ -137,18 +141,18 @@ fn write_commit(row: &mut [u8], number: u32, tag: u32)
 
 // Writes a committed row directly behind the used ones, in the same way.
 pub fn append_commit(commits: &mut [u8], used: usize, number: u32, tag: u32)
-    requires { ⌜ 8 * used + 8 ≤ length (now commits) ⌝ }
-    ensures { λ _. ⌜ now (commits .exit) ≡ layout 8 used (rowsIn 8 used (now (commits .entry)) ++ (commitRow number tag ∷ [])) (now (commits .entry)) ⌝ }
+    requires { ⌜ commitWidth * used + 8 ≤ length (now commits) ⌝ }
+    ensures { λ _. ⌜ RowAdded commitWidth used (commitRow number tag) (now (commits .entry)) (now (commits .exit)) ⌝ }
 {
-    let end = 8 * used;
+    let end = COMMIT_ROW * used;
     write_commit(&mut commits[end..], number, tag);
 }
 
 // Replaces the value of data row i, whatever number of rows is in use.
 pub fn replace_value(rows: &mut [u8], i: usize, value: &[u8])
-    requires { ⌜ 24 * i + 24 ≤ length (now rows) ⌝ }
+    requires { ⌜ dataWidth * i + 24 ≤ length (now rows) ⌝ }
     requires { ⌜ length (now value) ≡ 16 ⌝ }
-    ensures { λ _. ⌜ ((n : ℕ) → i < n → 24 * n ≤ length (now (rows .entry)) → now (rows .exit) ≡ layout 24 n (set (rowsIn 24 n (now (rows .entry))) i (withValue (now (value .entry)) (getD (rowsIn 24 n (now (rows .entry))) i []))) (now (rows .entry))) ⌝ }
+    ensures { λ _. ⌜ ValueReplaced i (now (value .entry)) (now (rows .entry)) (now (rows .exit)) ⌝ }
 {
-    copy_at(rows, 24 * i + 8, value);
+    copy_at(rows, DATA_ROW * i + 8, value);
 }

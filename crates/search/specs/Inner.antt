@@ -4,9 +4,13 @@ use Prim.Native.Nat.{ℕ, _≤_, _<_}
 use mathlib.Core.Path.{_≡_}
 use mathlib.Core.List.{List}
 use lib.ListN.{length, getD}
+use mathlib.Core.Bool.{_&&_, _||_}
+use lib.Dec.{eqb}
 use Rattle.spec.specs.Choice.{if_then_else_}
-use Rattle.spec.specs.Rows.{Row}
-use Rattle.spec.specs.Share.{wrote}
+use Rattle.spec.specs.Set.{clients, member, collect}
+use Rattle.spec.specs.Look.{isOwn, find}
+use Rattle.spec.specs.Share.{count, shares, wrote}
+use Rattle.spec.specs.Rows.{hasTag, Row}
 use Rattle.spec.specs.declared.Found.{Found}
 use Rattle.spec.specs.declared.Found.the-variants.{At, Missing}
 use Rattle.search.specs.declared.Own.{Own}
@@ -30,3 +34,14 @@ pub record WrittenMarks (marks : List ℕ) (ds : List Row) (tag : ℕ) : Type 0 
 abbrev pub rowOrCount : Found → ℕ → Own
 rowOrCount (At i) n = OwnRow i
 rowOrCount Missing n = OwnRows n
+
+abbrev pub ownOf : ℕ → ℕ → List Row → Own
+ownOf tag cell ds = rowOrCount (find (isOwn tag cell) 0 ds) (count (hasTag tag) ds)
+
+-- those of the queued clients, with these numbers, that share a cell with the transaction
+abbrev pub sharersOf : ℕ → ℕ → List ℕ → List Row → ℕ
+sharersOf queued tag numbers ds = collect (λ j. member queued j && shares ds tag (getD numbers j 0)) clients
+
+-- the queued clients whose number is the tag have joined those found
+abbrev pub Joined : ℕ → ℕ → List ℕ → ℕ → ℕ → Type 0
+Joined found queued numbers tag r = (j : ℕ) → member r j ≡ (member found j || (member queued j && eqb (getD numbers j 0) tag))

@@ -1,16 +1,17 @@
 // Searches over the rows of both buffers.
 ghost use mathlib.Core.Path.{_≡_};
-ghost use mathlib.Core.Bool.{true, _&&_, _||_};
-ghost use Prim.Native.Nat.{ℕ, _+_, _*_, _≤_, _<_};
+ghost use mathlib.Core.Bool.{true, _&&_};
+ghost use Prim.Native.Nat.{_+_, _*_, _≤_, _<_};
 ghost use lib.Dec.{eqb, ltb};
-ghost use lib.ListN.{length, getD, set};
-ghost use Rattle.spec.specs.Set.{clients, member, insert, collect};
+ghost use lib.ListN.{length, set};
+ghost use Rattle.spec.specs.Set.{clients, member, insert};
 ghost use Rattle.spec.specs.Choice.{if_then_else_};
-ghost use Rattle.spec.specs.Rows.{rowAt, rowsIn, rowsFrom, tagOf, cellOf, commitNumber, hasTag};
+ghost use Rattle.spec.specs.Rows.{dataWidth, commitWidth, dataRowsIn, commitRowsIn, rowAt, rowsFrom, tagOf};
+ghost use Rattle.spec.specs.Rows.{cellOf, commitNumber, hasTag};
 ghost use Rattle.spec.specs.Numbers.{lesser, above, upTo};
-ghost use Rattle.spec.specs.Look.{commitOf, isOwn, find, newer, versionAt, lookFor};
-ghost use Rattle.spec.specs.Share.{any, count, wrote, cellsOf, shares, conflict};
-ghost use Rattle.search.specs.Inner.{rowOrCount, Next, WrittenMarks};
+ghost use Rattle.spec.specs.Look.{commitOf, newer, versionAt, lookFor};
+ghost use Rattle.spec.specs.Share.{any, wrote, cellsOf, conflict};
+ghost use Rattle.search.specs.Inner.{ownOf, sharersOf, Joined, Next, WrittenMarks};
 use spec::CLIENTS;
 use spec::Found;
 use spec::Lookup;
@@ -26,9 +27,9 @@ pub enum Own {
 // ---- the passes: the next row, from row from on, with a tag or a cell; used where there is none
 
 pub fn next_tag(rows: &[u8], from: usize, used: usize, tag: u32) -> usize
-    requires { ⌜ 24 * used ≤ length (now rows) ⌝ }
+    requires { ⌜ dataWidth * used ≤ length (now rows) ⌝ }
     requires { ⌜ from ≤ used ⌝ }
-    ensures { λ r. ⌜ Next (λ k. tagOf (rowAt 24 k (now (rows .entry))) ≡ tag) from used r ⌝ }
+    ensures { λ r. ⌜ Next (λ k. tagOf (rowAt dataWidth k (now (rows .entry))) ≡ tag) from used r ⌝ }
 {
     let mut i = from;
     while i < used {
@@ -41,9 +42,9 @@ pub fn next_tag(rows: &[u8], from: usize, used: usize, tag: u32) -> usize
 }
 
 pub fn next_cell(rows: &[u8], from: usize, used: usize, cell: u32) -> usize
-    requires { ⌜ 24 * used ≤ length (now rows) ⌝ }
+    requires { ⌜ dataWidth * used ≤ length (now rows) ⌝ }
     requires { ⌜ from ≤ used ⌝ }
-    ensures { λ r. ⌜ Next (λ k. cellOf (rowAt 24 k (now (rows .entry))) ≡ cell) from used r ⌝ }
+    ensures { λ r. ⌜ Next (λ k. cellOf (rowAt dataWidth k (now (rows .entry))) ≡ cell) from used r ⌝ }
 {
     let mut i = from;
     while i < used {
@@ -57,8 +58,8 @@ pub fn next_cell(rows: &[u8], from: usize, used: usize, cell: u32) -> usize
 
 // The number of the first committed row with that tag.
 pub fn commit_of(commits: &[u8], entries: usize, tag: u32) -> Number
-    requires { ⌜ 8 * entries ≤ length (now commits) ⌝ }
-    ensures { λ r. ⌜ r ≡ commitOf tag (rowsIn 8 entries (now (commits .entry))) ⌝ }
+    requires { ⌜ commitWidth * entries ≤ length (now commits) ⌝ }
+    ensures { λ r. ⌜ r ≡ commitOf tag (commitRowsIn entries (now (commits .entry))) ⌝ }
 {
     let mut i = 0;
     while i < entries {
@@ -116,9 +117,10 @@ pub fn look_for(
     cell: u32,
     snapshot: u32,
 ) -> Lookup
-    requires { ⌜ 24 * used ≤ length (now rows) ⌝ }
-    requires { ⌜ 8 * entries ≤ length (now commits) ⌝ }
-    ensures { λ r. ⌜ r ≡ lookFor tag cell snapshot (rowsIn 24 used (now (rows .entry))) (rowsIn 8 entries (now (commits .entry))) ⌝ }
+    requires { ⌜ dataWidth * used ≤ length (now rows) ⌝ }
+    requires { ⌜ commitWidth * entries ≤ length (now commits) ⌝ }
+    ensures { λ r. ⌜ r ≡ lookFor tag cell snapshot (dataRowsIn used (now (rows .entry)))
+        (commitRowsIn entries (now (commits .entry))) ⌝ }
 {
     let mut best = Lookup::Nothing;
     let mut i = next_cell(rows, 0, used, cell);
@@ -138,8 +140,8 @@ pub fn look_for(
 
 // Whether the transaction has a row, looked for from the end: an open transaction's rows are among the newest.
 pub fn has_rows(rows: &[u8], used: usize, tag: u32) -> bool
-    requires { ⌜ 24 * used ≤ length (now rows) ⌝ }
-    ensures { λ r. ⌜ r ≡ any (hasTag tag) (rowsIn 24 used (now (rows .entry))) ⌝ }
+    requires { ⌜ dataWidth * used ≤ length (now rows) ⌝ }
+    ensures { λ r. ⌜ r ≡ any (hasTag tag) (dataRowsIn used (now (rows .entry))) ⌝ }
 {
     let mut i = used;
     while 0 < i {
@@ -153,8 +155,8 @@ pub fn has_rows(rows: &[u8], used: usize, tag: u32) -> bool
 
 // The transaction's row for a cell, or how many rows it has, in one pass.
 pub fn own_row(rows: &[u8], used: usize, tag: u32, cell: u32) -> Own
-    requires { ⌜ 24 * used ≤ length (now rows) ⌝ }
-    ensures { λ r. ⌜ r ≡ rowOrCount (find (isOwn tag cell) 0 (rowsIn 24 used (now (rows .entry)))) (count (hasTag tag) (rowsIn 24 used (now (rows .entry)))) ⌝ }
+    requires { ⌜ dataWidth * used ≤ length (now rows) ⌝ }
+    ensures { λ r. ⌜ r ≡ ownOf tag cell (dataRowsIn used (now (rows .entry))) ⌝ }
 {
     let mut n: usize = 0;
     let mut i = next_tag(rows, 0, used, tag);
@@ -170,9 +172,9 @@ pub fn own_row(rows: &[u8], used: usize, tag: u32, cell: u32) -> Own
 
 // Whether the transaction wrote the cell, by its rows from row from on.
 fn wrote_from(rows: &[u8], from: usize, used: usize, tag: u32, cell: u32) -> bool
-    requires { ⌜ 24 * used ≤ length (now rows) ⌝ }
+    requires { ⌜ dataWidth * used ≤ length (now rows) ⌝ }
     requires { ⌜ from ≤ used ⌝ }
-    ensures { λ r. ⌜ r ≡ wrote (rowsFrom 24 used from (now (rows .entry))) tag cell ⌝ }
+    ensures { λ r. ⌜ r ≡ wrote (rowsFrom dataWidth used from (now (rows .entry))) tag cell ⌝ }
 {
     let mut i = next_tag(rows, from, used, tag);
     while i < used {
@@ -186,9 +188,11 @@ fn wrote_from(rows: &[u8], from: usize, used: usize, tag: u32, cell: u32) -> boo
 
 // 1 if no later row of the transaction has row i's cell.
 fn last_of_cell(rows: &[u8], i: usize, used: usize, tag: u32) -> usize
-    requires { ⌜ 24 * used ≤ length (now rows) ⌝ }
+    requires { ⌜ dataWidth * used ≤ length (now rows) ⌝ }
     requires { ⌜ i < used ⌝ }
-    ensures { λ r. ⌜ r ≡ (if wrote (rowsFrom 24 used (i + 1) (now (rows .entry))) tag (cellOf (rowAt 24 i (now (rows .entry)))) then 0 else 1) ⌝ }
+    ensures { λ r. ⌜ r
+        ≡ (if wrote (rowsFrom dataWidth used (i + 1) (now (rows .entry)))
+        tag (cellOf (rowAt dataWidth i (now (rows .entry)))) then 0 else 1) ⌝ }
 {
     if wrote_from(rows, i + 1, used, tag, rows::cell_at(rows, i)) {
         0
@@ -199,8 +203,8 @@ fn last_of_cell(rows: &[u8], i: usize, used: usize, tag: u32) -> usize
 
 // How many cells the transaction wrote.
 pub fn count_cells(rows: &[u8], used: usize, tag: u32) -> usize
-    requires { ⌜ 24 * used ≤ length (now rows) ⌝ }
-    ensures { λ r. ⌜ r ≡ cellsOf tag (rowsIn 24 used (now (rows .entry))) ⌝ }
+    requires { ⌜ dataWidth * used ≤ length (now rows) ⌝ }
+    ensures { λ r. ⌜ r ≡ cellsOf tag (dataRowsIn used (now (rows .entry))) ⌝ }
 {
     let mut n: usize = 0;
     let mut i = next_tag(rows, 0, used, tag);
@@ -215,7 +219,8 @@ pub fn count_cells(rows: &[u8], used: usize, tag: u32) -> usize
 
 // Notes a cell below 1,024.
 fn mark(marks: &mut [u8; 1024], cell: u32)
-    ensures { λ _. ⌜ now (marks .exit) ≡ (if ltb cell 1024 then set (now (marks .entry)) cell 1 else now (marks .entry)) ⌝ }
+    ensures { λ _. ⌜ now (marks .exit)
+        ≡ (if ltb cell 1024 then set (now (marks .entry)) cell 1 else now (marks .entry)) ⌝ }
 {
     if cell < 1024 {
         marks[cell as usize] = 1;
@@ -224,8 +229,8 @@ fn mark(marks: &mut [u8; 1024], cell: u32)
 
 // For each cell below 1,024 whether the transaction wrote it.
 fn cells_of(rows: &[u8], used: usize, tag: u32) -> [u8; 1024]
-    requires { ⌜ 24 * used ≤ length (now rows) ⌝ }
-    ensures { λ r. ⌜ WrittenMarks r (rowsIn 24 used (now (rows .entry))) tag ⌝ }
+    requires { ⌜ dataWidth * used ≤ length (now rows) ⌝ }
+    ensures { λ r. ⌜ WrittenMarks r (dataRowsIn used (now (rows .entry))) tag ⌝ }
 {
     let mut marks = [0u8; 1024];
     let mut i = next_tag(rows, 0, used, tag);
@@ -238,9 +243,9 @@ fn cells_of(rows: &[u8], used: usize, tag: u32) -> [u8; 1024]
 
 // Whether the transaction wrote the cell, by its marks; cells above 1,023 are looked for in the rows.
 fn has_written(marks: &[u8; 1024], rows: &[u8], used: usize, tag: u32, cell: u32) -> bool
-    requires { ⌜ 24 * used ≤ length (now rows) ⌝ }
-    requires { ⌜ WrittenMarks (now marks) (rowsIn 24 used (now rows)) tag ⌝ }
-    ensures { λ r. ⌜ r ≡ wrote (rowsIn 24 used (now (rows .entry))) tag cell ⌝ }
+    requires { ⌜ dataWidth * used ≤ length (now rows) ⌝ }
+    requires { ⌜ WrittenMarks (now marks) (dataRowsIn used (now rows)) tag ⌝ }
+    ensures { λ r. ⌜ r ≡ wrote (dataRowsIn used (now (rows .entry))) tag cell ⌝ }
 {
     if cell < 1024 {
         return marks[cell as usize] == 1;
@@ -262,7 +267,7 @@ fn with_writer(found: Set, queued: Set, client: u32, number: u32, tag: u32) -> S
 
 // The set, and those of the queued clients whose transaction has that number.
 fn with_writers(found: Set, queued: Set, numbers: &[u32; CLIENTS], tag: u32) -> Set
-    ensures { λ r. ⌜ ((j : ℕ) → member r j ≡ (member found j || (member queued j && eqb (getD (now (numbers .entry)) j 0) tag))) ⌝ }
+    ensures { λ r. ⌜ Joined found queued (now (numbers .entry)) tag r ⌝ }
 {
     let mut out = found;
     for i in 0..CLIENTS {
@@ -271,10 +276,11 @@ fn with_writers(found: Set, queued: Set, numbers: &[u32; CLIENTS], tag: u32) -> 
     out
 }
 
-// Those of the queued clients whose transactions share a cell with the transaction: one pass over the rows for all of them.
+// Those of the queued clients whose transactions share a cell with the transaction: one pass over the rows for all
+// of them.
 pub fn sharers(rows: &[u8], used: usize, tag: u32, numbers: &[u32; CLIENTS], queued: Set) -> Set
-    requires { ⌜ 24 * used ≤ length (now rows) ⌝ }
-    ensures { λ r. ⌜ r ≡ collect (λ j. member queued j && shares (rowsIn 24 used (now (rows .entry))) tag (getD (now (numbers .entry)) j 0)) clients ⌝ }
+    requires { ⌜ dataWidth * used ≤ length (now rows) ⌝ }
+    ensures { λ r. ⌜ r ≡ sharersOf queued tag (now (numbers .entry)) (dataRowsIn used (now (rows .entry))) ⌝ }
 {
     if queued == 0 {
         return 0;
@@ -295,8 +301,8 @@ pub fn sharers(rows: &[u8], used: usize, tag: u32, numbers: &[u32; CLIENTS], que
 
 // Whether a committed row in use has a number above s.
 fn any_above(commits: &[u8], entries: usize, s: u32) -> bool
-    requires { ⌜ 8 * entries ≤ length (now commits) ⌝ }
-    ensures { λ r. ⌜ r ≡ any (λ c. ltb s (commitNumber c)) (rowsIn 8 entries (now (commits .entry))) ⌝ }
+    requires { ⌜ commitWidth * entries ≤ length (now commits) ⌝ }
+    ensures { λ r. ⌜ r ≡ any (λ c. ltb s (commitNumber c)) (commitRowsIn entries (now (commits .entry))) ⌝ }
 {
     let mut i = 0;
     while i < entries {
@@ -345,9 +351,10 @@ pub fn conflict(
     tag: u32,
     snapshot: u32,
 ) -> Number
-    requires { ⌜ 24 * used ≤ length (now rows) ⌝ }
-    requires { ⌜ 8 * entries ≤ length (now commits) ⌝ }
-    ensures { λ r. ⌜ r ≡ conflict tag snapshot (rowsIn 24 used (now (rows .entry))) (rowsIn 8 entries (now (commits .entry))) ⌝ }
+    requires { ⌜ dataWidth * used ≤ length (now rows) ⌝ }
+    requires { ⌜ commitWidth * entries ≤ length (now commits) ⌝ }
+    ensures { λ r. ⌜ r ≡ conflict tag snapshot (dataRowsIn used (now (rows .entry)))
+        (commitRowsIn entries (now (commits .entry))) ⌝ }
 {
     if !any_above(commits, entries, snapshot) {
         return Number::None;

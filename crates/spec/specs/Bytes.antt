@@ -1,13 +1,14 @@
 -- How an image stands in a record and two buffers, once for all calls; fitness; set-up.
 -- Assumes nothing.
 use Prim.Native.Nat.{ℕ, zero, suc, _*_, _-_, _/_}
+use mathlib.Core.Path.{_≡_}
 use mathlib.Core.Bool.{Bool, true, false, not}
 use mathlib.Core.List.{List}
 use lib.ListN.{length, getD, replicate}
 use lib.Dec.{ltb, eqb}
 use Rattle.spec.specs.Choice.{if_then_else_}
 use Rattle.spec.specs.Set.{clients}
-use Rattle.spec.specs.Rows.{rowsIn, layout}
+use Rattle.spec.specs.Rows.{dataWidth, commitWidth, dataRowsIn, commitRowsIn, layout}
 use Rattle.spec.specs.declared.Store.{Store}
 use Rattle.spec.specs.Answers.{Answer, Answered, Refused, badSetUp, unfit}
 use Rattle.spec.specs.Image.{Counters, countersOf, Clients, clientsOf, imageOf, Image, empty}
@@ -42,7 +43,7 @@ recordOf r l n c d m = record {
 
 -- the image that a record and two buffers show
 unfoldable pub decode : Store → List ℕ → List ℕ → Image
-decode s d c = imageOf (s .rows) (s .limit) (countersIn s) (clientsIn s) (rowsIn 24 (s .used) d) (rowsIn 8 (s .entries) c)
+decode s d c = imageOf (s .rows) (s .limit) (countersIn s) (clientsIn s) (dataRowsIn (s .used) d) (commitRowsIn (s .entries) c)
 
 -- the record of an image
 unfoldable pub storeOf : Image → Store
@@ -70,7 +71,11 @@ afterOf s d c a = record { memory = memoryOf s d c; answer = a }
 -- the outcome of a call in the place of what the record s and the buffers d and c held
 unfoldable pub encode : {A : Type 0} → Store → List ℕ → List ℕ → Outcome A → After A
 encode s d c o =
-    afterOf (storeOf (o .image)) (layout 24 (s .used) (o .image .dataRows) d) (layout 8 (s .entries) (o .image .commitRows) c) (o .answer)
+    afterOf (storeOf (o .image)) (layout dataWidth (s .used) (o .image .dataRows) d) (layout commitWidth (s .entries) (o .image .commitRows) c) (o .answer)
+
+-- "rows 1 to 1,024"
+abbrev pub mostRows : ℕ
+mostRows = 1024
 
 -- the stages of the clients below n are known ones
 unfoldable pub known : List ℕ → ℕ → Bool
@@ -82,9 +87,9 @@ known l (suc n) = if ltb 13 (getD l n 0) then false else known l n
 unfoldable pub fits : Store → ℕ → ℕ → Bool
 fits s d c =
     if ltb (s .rows) 1 then false else
-    if ltb 1024 (s .rows) then false else
-    if not (eqb d (24 * s .rows)) then false else
-    if not (eqb c (8 * s .rows)) then false else
+    if ltb mostRows (s .rows) then false else
+    if not (eqb d (dataWidth * s .rows)) then false else
+    if not (eqb c (commitWidth * s .rows)) then false else
     if ltb (s .rows) (s .used) then false else
     if ltb (s .rows) (s .entries) then false else
     known (s .stage) clients
@@ -95,29 +100,44 @@ onBytes f s d c =
     if fits s (length d) (length c) then encode s d c (f (decode s d c)) else
     afterOf s d c (Refused unfit)
 
+-- The promise of a call: it has found the memory m and left m′ and the answer a, and so does its definition f.
+abbrev pub Performs : {A : Type 0} → (Image → Outcome A) → Memory → Memory → Answer A → Type 0
+Performs f m m′ a = afterOf (m′ .store) (m′ .dataBytes) (m′ .commitBytes) a ≡ onBytes f (m .store) (m .dataBytes) (m .commitBytes)
+
 -- ---- "Set-up is given the buffers, the first W and the cell limit", and document 02, 9: "A cell limit of 0 at set-up now stands for 8."
 
 abbrev pub defaultLimit : ℕ
 defaultLimit = 8
 
+abbrev pub mostLimit : ℕ
+mostLimit = 64
+
 abbrev pub limitOf : ℕ → ℕ
 limitOf l = if eqb l 0 then defaultLimit else l
+
+-- the rows of a data buffer of d bytes
+abbrev pub rowsOf : ℕ → ℕ
+rowsOf d = d / dataWidth
 
 -- "Refused 1 if the data length isn't 24 × rows with rows 1 to 1,024, the committed length isn't 8 × rows, the first W is 0, or the limit is
 -- above 64": here it is accepted, for buffers of d and c bytes
 unfoldable pub accepts : ℕ → ℕ → ℕ → ℕ → Bool
 accepts d c w l =
-    if not (eqb d (24 * (d / 24))) then false else
-    if ltb (d / 24) 1 then false else
-    if ltb 1024 (d / 24) then false else
-    if not (eqb c (8 * (d / 24))) then false else
+    if not (eqb d (dataWidth * rowsOf d)) then false else
+    if ltb (rowsOf d) 1 then false else
+    if ltb mostRows (rowsOf d) then false else
+    if not (eqb c (commitWidth * rowsOf d)) then false else
     if eqb w 0 then false else
-    not (ltb 64 l)
+    not (ltb mostLimit l)
 
 -- "The record handed back then has 0 rows and zeros in all else, and the buffers keep their bytes. Success zeroes both buffers."
 unfoldable pub setUp : List ℕ → List ℕ → ℕ → ℕ → After ℕ
 setUp d c w l =
-    let r : ℕ = length d / 24 in
+    let r : ℕ = rowsOf (length d) in
     if accepts (length d) (length c) w l
     then afterOf (storeOf (empty r (limitOf l) (w - 1))) (replicate (length d) 0) (replicate (length c) 0) (Answered r)
     else afterOf (storeOf (empty 0 0 0)) d c (Refused badSetUp)
+
+-- the promise of a set-up, which was given the buffers d and c
+abbrev pub SetsUp : List ℕ → List ℕ → ℕ → ℕ → Memory → Answer ℕ → Type 0
+SetsUp d c w l m′ a = afterOf (m′ .store) (m′ .dataBytes) (m′ .commitBytes) a ≡ setUp d c w l

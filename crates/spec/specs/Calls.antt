@@ -9,14 +9,14 @@ use lib.ListN.{length, getD, set}
 use lib.Dec.{leb, ltb, eqb}
 use Rattle.spec.specs.Choice.{if_then_else_}
 use Rattle.spec.specs.Set.{clients}
-use Rattle.spec.specs.Rows.{Row, dataRow, withValue, filter, hasTag}
+use Rattle.spec.specs.Rows.{cells, Row, dataRow, withValue, filter, hasTag}
 use Rattle.spec.specs.declared.Number.{Number}
 use Rattle.spec.specs.declared.Number.the-variants.{Some, None}
 use Rattle.spec.specs.declared.Found.{Found}
 use Rattle.spec.specs.declared.Found.the-variants.{At, Missing}
 use Rattle.spec.specs.declared.Lookup.{Lookup}
 use Rattle.spec.specs.declared.Lookup.the-variants.{Version, Nothing}
-use Rattle.spec.specs.Numbers.{smallest}
+use Rattle.spec.specs.Numbers.{top, smallest}
 use Rattle.spec.specs.Look.{isOwn, find, lookFor}
 use Rattle.spec.specs.Share.{cellsOf}
 use Rattle.spec.specs.Trim.{trimmedRows, trimmedCommits}
@@ -36,14 +36,6 @@ replies i a = record { image = i; answer = Answered a }
 
 abbrev pub refuse : {A : Type 0} → ℕ → Image → Outcome A
 refuse n i = record { image = i; answer = Refused n }
-
--- "Cells: numbers 0 to 1,023."
-abbrev pub cells : ℕ
-cells = 1024
-
--- the largest number of 32 bits
-abbrev pub top : ℕ
-top = 4294967295
 
 -- ---- "Free figure: rows of the store less data rows in use."
 

@@ -7,7 +7,7 @@ use mathlib.Core.List.{List}
 use lib.ListN.{length, getD}
 use lib.Dec.{leb, ltb}
 use Rattle.spec.specs.Choice.{if_then_else_}
-use Rattle.spec.specs.Rows.{Row, rowsIn, rowsFrom, commitNumber, commitTag}
+use Rattle.spec.specs.Rows.{cells, commitWidth, dataRowsIn, commitRowsIn, Row, rowsFrom, commitNumber, commitTag}
 use Rattle.spec.specs.Share.{any, wrote}
 use Rattle.spec.specs.Orderly.{orderly}
 
@@ -25,10 +25,10 @@ marked low ds cs x = any (marksCell low ds x) cs
 -- marked, and else one more than the number of the row that marked it. `so-far`: the marked cells are exactly those that row j or a later one,
 -- numbered at most low, wrote. `after-each`: so it was after each row k from j on; the cells that were marked then are those with a mark above k.
 pub record Marks (low n m : ℕ) (s c : List ℕ) (j : ℕ) (marks : List ℕ) : Type 0 where
-  pub size : length marks ≡ 1024
-  pub so-far : (x : ℕ) → x < 1024 → ltb 0 (getD marks x 0) ≡ marked low (rowsIn 24 n s) (rowsFrom 8 m j c) x
-  pub after-each : (k x : ℕ) → j ≤ k → x < 1024 → ltb k (getD marks x 0) ≡ marked low (rowsIn 24 n s) (rowsFrom 8 m k c) x
+  pub size : length marks ≡ cells
+  pub so-far : (x : ℕ) → x < cells → ltb 0 (getD marks x 0) ≡ marked low (dataRowsIn n s) (rowsFrom commitWidth m j c) x
+  pub after-each : (k x : ℕ) → j ≤ k → x < cells → ltb k (getD marks x 0) ≡ marked low (dataRowsIn n s) (rowsFrom commitWidth m k c) x
 
 -- So it is on all orderly bytes: the marks that a trim leaves in the end show the marked cells after each committed row.
 pub record Worked (low n m : ℕ) (s c marks : List ℕ) : Type 0 where
-  pub from-newest : orderly (rowsIn 24 n s) (rowsIn 8 m c) ≡ true → Marks low n m s c 0 marks
+  pub from-newest : orderly (dataRowsIn n s) (commitRowsIn m c) ≡ true → Marks low n m s c 0 marks

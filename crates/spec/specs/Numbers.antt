@@ -7,6 +7,10 @@ use Rattle.spec.specs.Choice.{if_then_else_}
 use Rattle.spec.specs.declared.Number.{Number}
 use Rattle.spec.specs.declared.Number.the-variants.{Some, None}
 
+-- the largest number of 32 bits
+abbrev pub top : ℕ
+top = 4294967295
+
 unfoldable pub lesser : Number → Number → Number
 lesser None n = n
 lesser (Some m) None = Some m

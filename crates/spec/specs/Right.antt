@@ -8,12 +8,11 @@ use mathlib.Core.List.{List, [], _∷_, List·Memᴰ}
 use mathlib.Core.Option.{Option, none, some}
 use lib.ListN.{length, take, drop}
 use Rattle.spec.specs.Choice.{if_then_else_}
-use Rattle.spec.specs.Rows.{rowsIn}
+use Rattle.spec.specs.Rows.{rowsIn, cells}
 use Rattle.spec.specs.declared.Begun.{Begun}
 use Rattle.spec.specs.declared.Progress.{Progress}
 use Rattle.spec.specs.declared.Progress.the-variants.{Stage, Waiting, Conflict, Done}
 use Rattle.spec.specs.Answers.{Answer, Answered, Refused, unfit, noCell, notOpen, wrongStage, cellLimit, noFreeRow, wrongLength}
-use Rattle.spec.specs.Calls.{cells}
 use Rattle.spec.specs.Bytes.{fits, limitOf, Memory}
 use Rattle.spec.specs.Run.{Call, Begin, Read, Write, Advance, Abandon, Trim, Free, refusals, Listed, step}
 use Rattle.spec.specs.Table.{Value, Values, has, Commit, Open, Table, orElse, Observed, observeAnswer, update}

@@ -30,6 +30,17 @@ unfoldable pub bytesOf : ℕ → ℕ → List ℕ
 bytesOf zero n = []
 bytesOf (suc k) n = n % 256 ∷ bytesOf k (n / 256)
 
+-- "Cells: numbers 0 to 1,023."
+abbrev pub cells : ℕ
+cells = 1024
+
+-- "24-byte rows", "8-byte rows"
+abbrev pub dataWidth : ℕ
+dataWidth = 24
+
+abbrev pub commitWidth : ℕ
+commitWidth = 8
+
 -- ---- "Data buffer: 24-byte rows. Bytes 0 to 3 hold the tag (the writer's transaction number), 4 and 5 the cell, 6 and 7 zero, 8 to 23 the value."
 
 unfoldable pub dataRow : ℕ → ℕ → List ℕ → Row
@@ -69,6 +80,13 @@ rowAt w i s = part (w * i) w s
 unfoldable pub rowsIn : ℕ → ℕ → List ℕ → List Row
 rowsIn w zero s = []
 rowsIn w (suc n) s = take w s ∷ rowsIn w n (drop w s)
+
+-- of a data buffer, and of a committed buffer
+abbrev pub dataRowsIn : ℕ → List ℕ → List Row
+dataRowsIn n d = rowsIn dataWidth n d
+
+abbrev pub commitRowsIn : ℕ → List ℕ → List Row
+commitRowsIn n c = rowsIn commitWidth n c
 
 -- those from row i on
 unfoldable pub rowsFrom : ℕ → ℕ → ℕ → List ℕ → List Row

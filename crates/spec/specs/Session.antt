@@ -9,7 +9,8 @@ use Rattle.spec.specs.declared.Form.{Form}
 use Rattle.spec.specs.declared.Form.the-variants.{SetUp, Begin, Read, Write, Advance, Abandon, Trim, Free, Other}
 use Rattle.spec.specs.Answers.{Answer, Answered, Refused, badSetUp, noForm}
 use Rattle.spec.specs.Image.{empty}
-use Rattle.spec.specs.Bytes.{storeOf, Memory, memoryOf, After, setUp}
+use Rattle.spec.specs.Rows.{dataWidth, commitWidth}
+use Rattle.spec.specs.Bytes.{mostRows, storeOf, Memory, memoryOf, After, setUp}
 use Rattle.spec.specs.Run as call
 use Rattle.spec.specs.Run.{Call, Result, step}
 use Rattle.spec.specs.Values.{valueFor}
@@ -19,7 +20,7 @@ use Rattle.spec.specs.Text.{formOf, valueIn, freeText, droppedText, begu
 
 -- "Before a set-up the store has 0 rows"
 unfoldable pub initial : Memory
-initial = memoryOf (storeOf (empty 0 0 0)) (replicate 24576 0) (replicate 8192 0)
+initial = memoryOf (storeOf (empty 0 0 0)) (replicate (dataWidth * mostRows) 0) (replicate (commitWidth * mostRows) 0)
 
 -- what a line leaves and prints
 pub record Response : Type 0 where
@@ -31,11 +32,11 @@ responds m t = record { memory = m; text = t }
 
 -- the part of the program's memory that belongs to its store
 abbrev pub front : Memory → Memory
-front m = memoryOf (m .store) (take (24 * m .store .rows) (m .dataBytes)) (take (8 * m .store .rows) (m .commitBytes))
+front m = memoryOf (m .store) (take (dataWidth * m .store .rows) (m .dataBytes)) (take (commitWidth * m .store .rows) (m .commitBytes))
 
 -- the program's memory, where its first r rows have become a store's memory m′
 abbrev pub behind : ℕ → Memory → Memory → Memory
-behind r m m′ = memoryOf (m′ .store) (m′ .dataBytes ++ drop (24 * r) (m .dataBytes)) (m′ .commitBytes ++ drop (8 * r) (m .commitBytes))
+behind r m m′ = memoryOf (m′ .store) (m′ .dataBytes ++ drop (dataWidth * r) (m .dataBytes)) (m′ .commitBytes ++ drop (commitWidth * r) (m .commitBytes))
 
 -- the text of what a call gives; a read's value is taken from the data buffer d
 abbrev pub resultText : (q : Call) → List ℕ → Result q → List ℕ
@@ -61,8 +62,8 @@ setUpSaid f r m a (Refused n) = responds m (lineText f (refusedText n))
 -- "rows outside 1 to 1,024 print (set-up (refused 1))"
 unfoldable pub setUpResponse : Form → ℕ → ℕ → ℕ → Memory → Response
 setUpResponse f r first limit m =
-    let a : After ℕ = setUp (take (24 * r) (m .dataBytes)) (take (8 * r) (m .commitBytes)) first limit in
-    if ltb 1024 r then responds m (lineText f (refusedText badSetUp)) else
+    let a : After ℕ = setUp (take (dataWidth * r) (m .dataBytes)) (take (commitWidth * r) (m .commitBytes)) first limit in
+    if ltb mostRows r then responds m (lineText f (refusedText badSetUp)) else
     setUpSaid f r m a (a .answer)
 
 -- the answer to a form; s is the line, in which a value's digits stand

@@ -17,7 +17,8 @@ use Rattle.spec.specs.declared.Progress.{Progress}
 use Rattle.spec.specs.declared.Progress.the-variants.{Stage, Waiting, Conflict, Done}
 use Rattle.spec.specs.Answers.{unfit, noClient, notOpen}
 use Rattle.spec.specs.Image.{Image, withClients, withRows, withRequested, withTaken, withLast, setStage, setRequest, setCommit, setRequestWaits, setCommitWaits, unlisted, closed, stageOf, numberOf, snapshotOf, requestOf, commitNumberOf, isOpen}
-use Rattle.spec.specs.Calls.{Outcome, replies, refuse, top, removed}
+use Rattle.spec.specs.Calls.{Outcome, replies, refuse, removed}
+use Rattle.spec.specs.Numbers.{top}
 
 -- ---- the two queues: who is in one, and whose number is noted, is read off the stage
 
@@ -68,6 +69,10 @@ takeRequest k i =
     if eqb (i .counters .requested) top then refuse unfit i else
     goOn 2 k (withRequested (withClients i (setRequest k n (i .clients))) n)
 
+-- 2: "note it in the queue row": it is noted from stage 3 on
+abbrev pub noteRequest : ℕ → Image → Outcome Progress
+noteRequest = goOn 3
+
 -- 3: "list the other queue rows that share a cell, once"
 unfoldable pub listRequests : ℕ → Image → Outcome Progress
 listRequests k i =
@@ -95,12 +100,20 @@ checked (Some n) k i = replies (removed k i) (Conflict n)
 unfoldable pub check : ℕ → Image → Outcome Progress
 check k i = checked (conflict (numberOf i k) (snapshotOf i k) (i .dataRows) (i .commitRows)) k i
 
+-- 6: "enter the commit queue": it is in the queue from stage 7 on
+abbrev pub enterCommits : ℕ → Image → Outcome Progress
+enterCommits = goOn 7
+
 -- 7: "take a commit number"
 unfoldable pub takeCommit : ℕ → Image → Outcome Progress
 takeCommit k i =
     let n : ℕ = i .counters .taken + 1 in
     if eqb (i .counters .taken) top then refuse unfit i else
     goOn 8 k (withTaken (withClients i (setCommit k n (i .clients))) n)
+
+-- 8: "note it": it is noted from stage 9 on
+abbrev pub noteCommit : ℕ → Image → Outcome Progress
+noteCommit = goOn 9
 
 -- 9: "list all other commit queue rows, once"
 unfoldable pub listCommits : ℕ → Image → Outcome Progress
@@ -127,18 +140,18 @@ leaveCommits k i = goOn 13 k (withClients i (unlisted k (i .clients)))
 unfoldable pub leaveRequests : ℕ → Image → Outcome Progress
 leaveRequests k i = finished (commitNumberOf i k) k i
 
--- the step from each stage, 0 to 13. Steps 2, 6 and 8 only go on: a number is noted, and a queue entered, by the stage itself
+-- the step from each stage, 0 to 13. At 2, 6 and 8 the stage alone changes: a number is noted, and a queue entered, by the stage itself
 abbrev pub steps : List (ℕ → Image → Outcome Progress)
 steps =
     enter
     ∷ takeRequest
-    ∷ goOn 3
+    ∷ noteRequest
     ∷ listRequests
     ∷ lookRequests
     ∷ check
-    ∷ goOn 7
+    ∷ enterCommits
     ∷ takeCommit
-    ∷ goOn 9
+    ∷ noteCommit
     ∷ listCommits
     ∷ lookCommits
     ∷ addCommit

@@ -9,6 +9,7 @@ use mathlib.Core.List.{List, [], _∷_, _++_}
 use lib.ListN.{length, getD, drop, replicate}
 use lib.Dec.{leb, ltb, eqb}
 use Rattle.spec.specs.Choice.{if_then_else_}
+use Rattle.spec.specs.Numbers.{top}
 use Rattle.spec.specs.declared.Form.{Form}
 use Rattle.spec.specs.declared.Form.the-variants.{SetUp, Begin, Read, Write, Advance, Abandon, Trim, Free, Other}
 use Rattle.spec.specs.declared.Decimal.{Decimal}
@@ -44,7 +45,7 @@ digitsFrom a i [] = Is a i
 digitsFrom a i (b ∷ s) =
     if ltb (digitVal b) 10 then
     (if eqb a 0 then No else
-    if ltb 4294967295 (a * 10 + digitVal b) then No else
+    if ltb top (a * 10 + digitVal b) then No else
     digitsFrom (a * 10 + digitVal b) (i + 1) s)
     else Is a i
 

@@ -8,6 +8,14 @@ pub const LIMIT: u32 = 64;
 // A set of clients, one bit a client.
 pub type Set = u64;
 
+// The bytes of a data row and of a committed row.
+pub const DATA_ROW: usize = 24;
+
+pub const COMMIT_ROW: usize = 8;
+
+// The largest number of 32 bits.
+pub const TOP: u32 = 4294967295;
+
 // Cells are numbered 0 to 1,023.
 pub const CELLS: u32 = 1024;
 
@@ -24,8 +32,8 @@ pub struct Store {
     // data rows and committed rows in use
     pub used: u32,
     pub entries: u32,
-    // by client: stage, transaction number, snapshot, request number, commit number, and the waiting lists of the request queue and of the
-    // commit queue
+    // by client: stage, transaction number, snapshot, request number, commit number, and the waiting lists of the
+    // request queue and of the commit queue
     pub stage: [u32; CLIENTS],
     pub number: [u32; CLIENTS],
     pub snapshot: [u32; CLIENTS],
@@ -62,8 +70,8 @@ pub enum Reading {
     Unwritten,
 }
 
-// What Advance gives: the new stage; how many transactions are still waited for; the smallest conflicting commit number; the
-// transaction's commit number.
+// What Advance gives: the new stage; how many transactions are still waited for; the smallest conflicting commit
+// number; the transaction's commit number.
 pub enum Progress {
     Stage(u32),
     Waiting(u32),

@@ -1,14 +1,18 @@
-// Advance: one small step function for each stage, 0 to 13. Where a step sees one buffer or none, its promise speaks of any other.
+// Advance: one small step function for each stage, 0 to 13. Where a step sees one buffer or none, its promise
+// speaks of any other.
 ghost use mathlib.Core.Path.{_≡_};
 ghost use mathlib.Core.Bool.{true};
-ghost use mathlib.Core.List.{List};
-ghost use Prim.Native.Nat.{ℕ, _*_, _≤_, _<_};
+ghost use Prim.Native.Nat.{_*_, _≤_, _<_};
 ghost use lib.ListN.{length};
+ghost use Rattle.spec.specs.Rows.{dataWidth, commitWidth};
 ghost use Rattle.spec.specs.Set.{clients};
 ghost use Rattle.spec.specs.Answers.{advanceOf};
-ghost use Rattle.spec.specs.Steps.{requestQueue, commitQueue, goOn, finished, advance, enter, takeRequest, listRequests, looked, lookRequests, check, takeCommit, listCommits, lookCommits, addCommit, leaveCommits, leaveRequests};
-ghost use Rattle.spec.specs.Bytes.{afterOf, fits, onBytes};
-ghost use Rattle.steps.specs.Inner.{Removed, Transforms, TransformsUnseen, TransformsDue};
+ghost use Rattle.spec.specs.Steps.{requestQueue, commitQueue, noteRequest, enterCommits, noteCommit, goOn};
+ghost use Rattle.spec.specs.Steps.{finished, advance, enter, takeRequest, listRequests, looked, lookRequests};
+ghost use Rattle.spec.specs.Steps.{check, takeCommit, listCommits, lookCommits, addCommit, leaveCommits};
+ghost use Rattle.spec.specs.Steps.{leaveRequests};
+ghost use Rattle.spec.specs.Bytes.{memoryOf, Performs, fits};
+ghost use Rattle.steps.specs.Inner.{Removed, StepDone, StepUnseen, StepOnRows, StepOnCommits, StepDue};
 use spec::AdvanceAnswer;
 use spec::AdvanceTurn;
 use spec::LIMIT;
@@ -18,6 +22,7 @@ use spec::Queue;
 use spec::Refusal;
 use spec::Set;
 use spec::Store;
+use spec::TOP;
 
 // The request queue: entered at stage 0, the number noted at 2, left at 13.
 fn request_queue() -> Queue
@@ -53,7 +58,7 @@ fn refuse(store: Store, refusal: Refusal) -> AdvanceTurn
 // The client goes on to a stage.
 fn go_on(store: Store, client: u32, stage: u32) -> AdvanceTurn
     requires { ⌜ client < clients ⌝ }
-    ensures { λ r. ⌜ TransformsUnseen (goOn stage client) store r ⌝ }
+    ensures { λ r. ⌜ StepUnseen (goOn stage client) store r ⌝ }
 {
     let k = client as usize;
     let mut next = store;
@@ -69,7 +74,7 @@ fn go_on(store: Store, client: u32, stage: u32) -> AdvanceTurn
 // The client is closed, with Done and a number.
 fn finish(store: Store, client: u32, number: u32) -> AdvanceTurn
     requires { ⌜ client < clients ⌝ }
-    ensures { λ r. ⌜ TransformsUnseen (finished number client) store r ⌝ }
+    ensures { λ r. ⌜ StepUnseen (finished number client) store r ⌝ }
 {
     let closed = record::close(store, client);
     AdvanceTurn {
@@ -81,8 +86,8 @@ fn finish(store: Store, client: u32, number: u32) -> AdvanceTurn
 // 0: enter the request queue; with nothing written the transaction is done at once.
 fn enter(store: Store, rows: &[u8], client: u32) -> AdvanceTurn
     requires { ⌜ client < clients ⌝ }
-    requires { ⌜ 24 * store .used ≤ length (now rows) ⌝ }
-    ensures { λ r. ⌜ ((c : List ℕ) → Transforms (enter client) store (now (rows .entry)) c r (now (rows .entry)) c) ⌝ }
+    requires { ⌜ dataWidth * store .used ≤ length (now rows) ⌝ }
+    ensures { λ r. ⌜ StepOnRows (enter client) store (now (rows .entry)) r (now (rows .entry)) ⌝ }
 {
     let k = client as usize;
     let numbers = store.number;
@@ -99,9 +104,9 @@ fn enter(store: Store, rows: &[u8], client: u32) -> AdvanceTurn
 // 1: take a request number.
 fn take_request(store: Store, client: u32) -> AdvanceTurn
     requires { ⌜ client < clients ⌝ }
-    ensures { λ r. ⌜ TransformsUnseen (takeRequest client) store r ⌝ }
+    ensures { λ r. ⌜ StepUnseen (takeRequest client) store r ⌝ }
 {
-    if store.requested == 4294967295 {
+    if store.requested == TOP {
         return refuse(store, Refusal::Unfit);
     }
     let k = client as usize;
@@ -114,11 +119,19 @@ fn take_request(store: Store, client: u32) -> AdvanceTurn
     go_on(next, client, 2)
 }
 
+// 2: note the request number in the queue row.
+fn note_request(store: Store, client: u32) -> AdvanceTurn
+    requires { ⌜ client < clients ⌝ }
+    ensures { λ r. ⌜ StepUnseen (noteRequest client) store r ⌝ }
+{
+    go_on(store, client, 3)
+}
+
 // 3: list the other queue rows that share a cell, once.
 fn list_requests(store: Store, rows: &[u8], client: u32) -> AdvanceTurn
     requires { ⌜ client < clients ⌝ }
-    requires { ⌜ 24 * store .used ≤ length (now rows) ⌝ }
-    ensures { λ r. ⌜ ((c : List ℕ) → Transforms (listRequests client) store (now (rows .entry)) c r (now (rows .entry)) c) ⌝ }
+    requires { ⌜ dataWidth * store .used ≤ length (now rows) ⌝ }
+    ensures { λ r. ⌜ StepOnRows (listRequests client) store (now (rows .entry)) r (now (rows .entry)) ⌝ }
 {
     let queue = request_queue();
     let k = client as usize;
@@ -137,7 +150,7 @@ fn list_requests(store: Store, rows: &[u8], client: u32) -> AdvanceTurn
 // What a look that leaves a list comes to: the next stage if none is left on it, else how many are.
 fn looked(store: Store, client: u32, list: Set, stage: u32) -> AdvanceTurn
     requires { ⌜ client < clients ⌝ }
-    ensures { λ r. ⌜ TransformsUnseen (looked stage client list) store r ⌝ }
+    ensures { λ r. ⌜ StepUnseen (looked stage client list) store r ⌝ }
 {
     if list == 0 {
         return go_on(store, client, stage);
@@ -151,7 +164,7 @@ fn looked(store: Store, client: u32, list: Set, stage: u32) -> AdvanceTurn
 // 4: look at the request queue.
 fn look_requests(store: Store, client: u32) -> AdvanceTurn
     requires { ⌜ client < clients ⌝ }
-    ensures { λ r. ⌜ TransformsUnseen (lookRequests client) store r ⌝ }
+    ensures { λ r. ⌜ StepUnseen (lookRequests client) store r ⌝ }
 {
     let queue = request_queue();
     let k = client as usize;
@@ -170,7 +183,7 @@ fn look_requests(store: Store, client: u32) -> AdvanceTurn
 // The client's data rows removed, and the client closed.
 pub fn remove(store: Store, rows: &mut [u8], client: u32) -> Store
     requires { ⌜ client < clients ⌝ }
-    requires { ⌜ 24 * store .used ≤ length (now rows) ⌝ }
+    requires { ⌜ dataWidth * store .used ≤ length (now rows) ⌝ }
     requires { ⌜ store .used ≤ 1024 ⌝ }
     ensures { λ r. ⌜ Removed client store (now (rows .entry)) r (now (rows .exit)) ⌝ }
 {
@@ -188,7 +201,9 @@ pub fn remove(store: Store, rows: &mut [u8], client: u32) -> Store
 fn check(store: Store, rows: &mut [u8], commits: &[u8], client: u32) -> AdvanceTurn
     requires { ⌜ client < clients ⌝ }
     requires { ⌜ fits store (length (now rows)) (length (now commits)) ≡ true ⌝ }
-    ensures { λ r. ⌜ Transforms (check client) store (now (rows .entry)) (now (commits .entry)) r (now (rows .exit)) (now (commits .entry)) ⌝ }
+    ensures { λ r. ⌜ StepDone (check client)
+        (memoryOf store (now (rows .entry)) (now (commits .entry)))
+        r (now (rows .exit)) (now (commits .entry)) ⌝ }
 {
     let k = client as usize;
     let numbers = store.number;
@@ -207,12 +222,20 @@ fn check(store: Store, rows: &mut [u8], commits: &[u8], client: u32) -> AdvanceT
     }
 }
 
+// 6: enter the commit queue.
+fn enter_commits(store: Store, client: u32) -> AdvanceTurn
+    requires { ⌜ client < clients ⌝ }
+    ensures { λ r. ⌜ StepUnseen (enterCommits client) store r ⌝ }
+{
+    go_on(store, client, 7)
+}
+
 // 7: take a commit number.
 fn take_commit(store: Store, client: u32) -> AdvanceTurn
     requires { ⌜ client < clients ⌝ }
-    ensures { λ r. ⌜ TransformsUnseen (takeCommit client) store r ⌝ }
+    ensures { λ r. ⌜ StepUnseen (takeCommit client) store r ⌝ }
 {
-    if store.taken == 4294967295 {
+    if store.taken == TOP {
         return refuse(store, Refusal::Unfit);
     }
     let k = client as usize;
@@ -225,10 +248,18 @@ fn take_commit(store: Store, client: u32) -> AdvanceTurn
     go_on(next, client, 8)
 }
 
+// 8: note the commit number.
+fn note_commit(store: Store, client: u32) -> AdvanceTurn
+    requires { ⌜ client < clients ⌝ }
+    ensures { λ r. ⌜ StepUnseen (noteCommit client) store r ⌝ }
+{
+    go_on(store, client, 9)
+}
+
 // 9: list all other commit queue rows, once.
 fn list_commits(store: Store, client: u32) -> AdvanceTurn
     requires { ⌜ client < clients ⌝ }
-    ensures { λ r. ⌜ TransformsUnseen (listCommits client) store r ⌝ }
+    ensures { λ r. ⌜ StepUnseen (listCommits client) store r ⌝ }
 {
     let queue = commit_queue();
     let k = client as usize;
@@ -243,7 +274,7 @@ fn list_commits(store: Store, client: u32) -> AdvanceTurn
 // 10: look at the commit queue.
 fn look_commits(store: Store, client: u32) -> AdvanceTurn
     requires { ⌜ client < clients ⌝ }
-    ensures { λ r. ⌜ TransformsUnseen (lookCommits client) store r ⌝ }
+    ensures { λ r. ⌜ StepUnseen (lookCommits client) store r ⌝ }
 {
     let queue = commit_queue();
     let k = client as usize;
@@ -262,9 +293,9 @@ fn look_commits(store: Store, client: u32) -> AdvanceTurn
 // 11: add the committed row; it becomes the last commit.
 fn add_commit(store: Store, commits: &mut [u8], client: u32) -> AdvanceTurn
     requires { ⌜ client < clients ⌝ }
-    requires { ⌜ 8 * store .rows ≤ length (now commits) ⌝ }
+    requires { ⌜ commitWidth * store .rows ≤ length (now commits) ⌝ }
     requires { ⌜ store .rows ≤ 1024 ⌝ }
-    ensures { λ r. ⌜ ((d : List ℕ) → Transforms (addCommit client) store d (now (commits .entry)) r d (now (commits .exit))) ⌝ }
+    ensures { λ r. ⌜ StepOnCommits (addCommit client) store (now (commits .entry)) r (now (commits .exit)) ⌝ }
 {
     if store.rows <= store.entries {
         return refuse(store, Refusal::Unfit);
@@ -291,7 +322,7 @@ fn add_commit(store: Store, commits: &mut [u8], client: u32) -> AdvanceTurn
 // 12: leave the commit queue.
 fn leave_commits(store: Store, client: u32) -> AdvanceTurn
     requires { ⌜ client < clients ⌝ }
-    ensures { λ r. ⌜ TransformsUnseen (leaveCommits client) store r ⌝ }
+    ensures { λ r. ⌜ StepUnseen (leaveCommits client) store r ⌝ }
 {
     let commit_waits = store.commitWaits;
     let lists = record::clear_all(commit_waits, client);
@@ -303,7 +334,7 @@ fn leave_commits(store: Store, client: u32) -> AdvanceTurn
 // 13: leave the request queue; closed.
 fn leave_requests(store: Store, client: u32) -> AdvanceTurn
     requires { ⌜ client < clients ⌝ }
-    ensures { λ r. ⌜ TransformsUnseen (leaveRequests client) store r ⌝ }
+    ensures { λ r. ⌜ StepUnseen (leaveRequests client) store r ⌝ }
 {
     let k = client as usize;
     let commits = store.commit;
@@ -315,7 +346,9 @@ fn leave_requests(store: Store, client: u32) -> AdvanceTurn
 fn step(store: Store, rows: &mut [u8], commits: &mut [u8], client: u32) -> AdvanceTurn
     requires { ⌜ client < clients ⌝ }
     requires { ⌜ fits store (length (now rows)) (length (now commits)) ≡ true ⌝ }
-    ensures { λ r. ⌜ TransformsDue client store (now (rows .entry)) (now (commits .entry)) r (now (rows .exit)) (now (commits .exit)) ⌝ }
+    ensures { λ r. ⌜ StepDue client
+        (memoryOf store (now (rows .entry)) (now (commits .entry)))
+        r (now (rows .exit)) (now (commits .exit)) ⌝ }
 {
     let k = client as usize;
     let stages = store.stage;
@@ -323,13 +356,13 @@ fn step(store: Store, rows: &mut [u8], commits: &mut [u8], client: u32) -> Advan
     match stage {
         0 => enter(store, rows, client),
         1 => take_request(store, client),
-        2 => go_on(store, client, 3),
+        2 => note_request(store, client),
         3 => list_requests(store, rows, client),
         4 => look_requests(store, client),
         5 => check(store, rows, commits, client),
-        6 => go_on(store, client, 7),
+        6 => enter_commits(store, client),
         7 => take_commit(store, client),
-        8 => go_on(store, client, 9),
+        8 => note_commit(store, client),
         9 => list_commits(store, client),
         10 => look_commits(store, client),
         11 => add_commit(store, commits, client),
@@ -341,7 +374,9 @@ fn step(store: Store, rows: &mut [u8], commits: &mut [u8], client: u32) -> Advan
 
 // Advance takes the one step that the client's stage calls for.
 pub fn advance(store: Store, rows: &mut [u8], commits: &mut [u8], client: u32) -> AdvanceTurn
-    ensures { λ r. ⌜ afterOf (r .store) (now (rows .exit)) (now (commits .exit)) (advanceOf (r .answer)) ≡ onBytes (advance client) store (now (rows .entry)) (now (commits .entry)) ⌝ }
+    ensures { λ r. ⌜ Performs (advance client)
+        (memoryOf store (now (rows .entry)) (now (commits .entry)))
+        (memoryOf (r .store) (now (rows .exit)) (now (commits .exit))) (advanceOf (r .answer)) ⌝ }
 {
     if !record::fit(store, rows.len(), commits.len()) {
         return refuse(store, Refusal::Unfit);

@@ -1,21 +1,23 @@
-// The eight calls of the store, open to other programs: the record goes in and comes back by value, the buffers are lent. None asks anything of
-// its caller. What each leaves and answers is defined in the crate spec: `onBytes` a call on a record and two buffers. Read, Write and Advance
-// are passed on from crates of their own.
+// The eight calls of the store, open to other programs: the record goes in and comes back by value, the buffers are
+// lent. None asks anything of its caller. What each leaves and answers is defined in the crate spec: `onBytes` a
+// call on a record and two buffers. Read, Write and Advance are passed on from crates of their own.
 ghost use mathlib.Core.Path.{_≡_};
 ghost use Rattle.spec.specs.Answers.{figureOf, beginOf};
 ghost use Rattle.spec.specs.Calls.{free, begin, abandon, trim};
-ghost use Rattle.spec.specs.Bytes.{afterOf, onBytes, setUp};
+ghost use Rattle.spec.specs.Bytes.{memoryOf, Performs, SetsUp};
 pub use reads::lookup;
 pub use reads::read;
 pub use reads::value;
 use spec::BeginAnswer;
 use spec::BeginTurn;
 use spec::Begun;
+use spec::DATA_ROW;
 use spec::FigureAnswer;
 use spec::FigureTurn;
 use spec::LIMIT;
 use spec::Refusal;
 use spec::Store;
+use spec::TOP;
 pub use steps::advance;
 pub use writes::write;
 
@@ -23,7 +25,8 @@ pub use writes::write;
 
 // Set-up answers the free figure, which is the number of rows.
 pub fn set_up(rows: &mut [u8], commits: &mut [u8], first: u32, limit: u32) -> FigureTurn
-    ensures { λ r. ⌜ afterOf (r .store) (now (rows .exit)) (now (commits .exit)) (figureOf (r .answer)) ≡ setUp (now (rows .entry)) (now (commits .entry)) first limit ⌝ }
+    ensures { λ r. ⌜ SetsUp (now (rows .entry)) (now (commits .entry)) first limit
+        (memoryOf (r .store) (now (rows .exit)) (now (commits .exit))) (figureOf (r .answer)) ⌝ }
 {
     if !record::acceptable(rows.len(), commits.len(), first, limit) {
         return FigureTurn {
@@ -31,7 +34,7 @@ pub fn set_up(rows: &mut [u8], commits: &mut [u8], first: u32, limit: u32) -> Fi
             answer: FigureAnswer::Refused(Refusal::BadSetUp),
         };
     }
-    let n = (rows.len() / 24) as u32;
+    let n = (rows.len() / DATA_ROW) as u32;
     rows::clear(rows);
     rows::clear(commits);
     FigureTurn {
@@ -43,7 +46,9 @@ pub fn set_up(rows: &mut [u8], commits: &mut [u8], first: u32, limit: u32) -> Fi
 // ---- Free
 
 pub fn free(store: Store, rows: &[u8], commits: &[u8]) -> FigureTurn
-    ensures { λ r. ⌜ afterOf (r .store) (now (rows .entry)) (now (commits .entry)) (figureOf (r .answer)) ≡ onBytes free store (now (rows .entry)) (now (commits .entry)) ⌝ }
+    ensures { λ r. ⌜ Performs free
+        (memoryOf store (now (rows .entry)) (now (commits .entry)))
+        (memoryOf (r .store) (now (rows .entry)) (now (commits .entry))) (figureOf (r .answer)) ⌝ }
 {
     if !record::fit(store, rows.len(), commits.len()) {
         return FigureTurn {
@@ -69,7 +74,9 @@ fn no_begin(store: Store, refusal: Refusal) -> BeginTurn
 }
 
 pub fn begin(store: Store, rows: &[u8], commits: &[u8], client: u32) -> BeginTurn
-    ensures { λ r. ⌜ afterOf (r .store) (now (rows .entry)) (now (commits .entry)) (beginOf (r .answer)) ≡ onBytes (begin client) store (now (rows .entry)) (now (commits .entry)) ⌝ }
+    ensures { λ r. ⌜ Performs (begin client)
+        (memoryOf store (now (rows .entry)) (now (commits .entry)))
+        (memoryOf (r .store) (now (rows .entry)) (now (commits .entry))) (beginOf (r .answer)) ⌝ }
 {
     if !record::fit(store, rows.len(), commits.len()) {
         return no_begin(store, Refusal::Unfit);
@@ -82,7 +89,7 @@ pub fn begin(store: Store, rows: &[u8], commits: &[u8], client: u32) -> BeginTur
     if numbers[k] != 0 {
         return no_begin(store, Refusal::AlreadyOpen);
     }
-    if store.issued == 4294967295 {
+    if store.issued == TOP {
         return no_begin(store, Refusal::NumbersUsedUp);
     }
     let number = store.issued + 1;
@@ -119,7 +126,9 @@ pub fn begin(store: Store, rows: &[u8], commits: &[u8], client: u32) -> BeginTur
 
 // Abandon answers the free figure.
 pub fn abandon(store: Store, rows: &mut [u8], commits: &[u8], client: u32) -> FigureTurn
-    ensures { λ r. ⌜ afterOf (r .store) (now (rows .exit)) (now (commits .entry)) (figureOf (r .answer)) ≡ onBytes (abandon client) store (now (rows .entry)) (now (commits .entry)) ⌝ }
+    ensures { λ r. ⌜ Performs (abandon client)
+        (memoryOf store (now (rows .entry)) (now (commits .entry)))
+        (memoryOf (r .store) (now (rows .exit)) (now (commits .entry))) (figureOf (r .answer)) ⌝ }
 {
     if !record::fit(store, rows.len(), commits.len()) {
         return record::no_figure(store, Refusal::Unfit);
@@ -145,7 +154,9 @@ pub fn abandon(store: Store, rows: &mut [u8], commits: &[u8], client: u32) -> Fi
 
 // Trim answers how many data rows went.
 pub fn trim(store: Store, rows: &mut [u8], commits: &mut [u8]) -> FigureTurn
-    ensures { λ r. ⌜ afterOf (r .store) (now (rows .exit)) (now (commits .exit)) (figureOf (r .answer)) ≡ onBytes trim store (now (rows .entry)) (now (commits .entry)) ⌝ }
+    ensures { λ r. ⌜ Performs trim
+        (memoryOf store (now (rows .entry)) (now (commits .entry)))
+        (memoryOf (r .store) (now (rows .exit)) (now (commits .exit))) (figureOf (r .answer)) ⌝ }
 {
     if !record::fit(store, rows.len(), commits.len()) {
         return record::no_figure(store, Refusal::Unfit);

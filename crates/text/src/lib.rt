@@ -1,13 +1,17 @@
-// Text of the step program: a form from a line, and the printing of words, numbers and bytes. Definitions: crate spec, specs/Text.antt.
+// Text of the step program: a form from a line, and the printing of words, numbers and bytes. Definitions: crate
+// spec, specs/Text.antt.
 use spec::Decimal;
 use spec::Form;
 use spec::OneNumber;
+use spec::TOP;
 use spec::TwoNumbers;
 ghost use mathlib.Core.Path.{_≡_};
 ghost use mathlib.Core.Bool.{true};
 ghost use Prim.Native.Nat.{_+_, _≤_, _<_};
 ghost use lib.ListN.{length};
-ghost use Rattle.spec.specs.Text.{begins as Text·begins, stands as Text·stands, bracketAt, digitVal, decimalAt, decimalOf, hexVal, hexAt, hexDigit, hexText, valueIn, oneAt, spacedAt, twoAt, setUpOf, writeOf, formIn, formOf};
+ghost use Rattle.spec.specs.Text.{begins as Text·begins, stands as Text·stands, bracketAt, digitVal, decimalAt};
+ghost use Rattle.spec.specs.Text.{decimalOf, hexVal, hexAt, hexDigit, hexText, valueIn, oneAt, spacedAt, twoAt};
+ghost use Rattle.spec.specs.Text.{setUpOf, writeOf, formIn, formOf};
 ghost use Rattle.text.specs.Inner.{Put, Spelled};
 
 // ---- bytes of a line
@@ -95,7 +99,7 @@ fn decimal(line: &[u8], at: usize) -> Decimal
             return Decimal::No;
         }
         let more = acc * 10 + d;
-        if 4294967295 < more {
+        if (TOP as u64) < more {
             return Decimal::No;
         }
         acc = more;

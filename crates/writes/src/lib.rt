@@ -5,11 +5,12 @@ ghost use Prim.Native.Nat.{_*_, _≤_, _<_};
 ghost use lib.Dec.{leb};
 ghost use lib.ListN.{length, getD};
 ghost use Rattle.spec.specs.Set.{clients};
-ghost use Rattle.spec.specs.Rows.{rowsIn, hasTag};
+ghost use Rattle.spec.specs.Rows.{dataWidth, dataRowsIn, hasTag};
 ghost use Rattle.spec.specs.Share.{count, cellsOf};
 ghost use Rattle.spec.specs.Answers.{figureOf};
 ghost use Rattle.spec.specs.Calls.{added, replaced, write};
-ghost use Rattle.spec.specs.Bytes.{decode, afterOf, encode, fits, onBytes};
+ghost use Rattle.record.specs.Inner.{Transforms};
+ghost use Rattle.spec.specs.Bytes.{memoryOf, Performs, fits};
 use search::Own;
 use spec::CELLS;
 use spec::FigureAnswer;
@@ -18,11 +19,12 @@ use spec::LIMIT;
 use spec::Refusal;
 use spec::Store;
 
-// Whether the transaction wrote as many cells as it may; it has that many rows. Its cells are counted where its rows are enough.
+// Whether the transaction wrote as many cells as it may; it has that many rows. Its cells are counted where its
+// rows are enough.
 fn limit_reached(rows: &[u8], used: usize, number: u32, limit: u32, own: usize) -> bool
-    requires { ⌜ 24 * used ≤ length (now rows) ⌝ }
-    requires { ⌜ own ≡ count (hasTag number) (rowsIn 24 used (now rows)) ⌝ }
-    ensures { λ r. ⌜ r ≡ leb limit (cellsOf number (rowsIn 24 used (now (rows .entry)))) ⌝ }
+    requires { ⌜ dataWidth * used ≤ length (now rows) ⌝ }
+    requires { ⌜ own ≡ count (hasTag number) (dataRowsIn used (now rows)) ⌝ }
+    ensures { λ r. ⌜ r ≡ leb limit (cellsOf number (dataRowsIn used (now (rows .entry)))) ⌝ }
 {
     let most = limit as usize;
     if own < most {
@@ -45,8 +47,10 @@ fn add_row(
     requires { ⌜ client < clients ⌝ }
     requires { ⌜ cell < 1024 ⌝ }
     requires { ⌜ length (now value) ≡ 16 ⌝ }
-    requires { ⌜ own ≡ count (hasTag (getD (store .number) client 0)) (rowsIn 24 (store .used) (now rows)) ⌝ }
-    ensures { λ r. ⌜ afterOf (r .store) (now (rows .exit)) (now (commits .entry)) (figureOf (r .answer)) ≡ encode store (now (rows .entry)) (now (commits .entry)) (added client cell (now (value .entry)) (decode store (now (rows .entry)) (now (commits .entry)))) ⌝ }
+    requires { ⌜ own ≡ count (hasTag (getD (store .number) client 0)) (dataRowsIn (store .used) (now rows)) ⌝ }
+    ensures { λ r. ⌜ Transforms (added client cell (now (value .entry)))
+        (memoryOf store (now (rows .entry)) (now (commits .entry)))
+        (memoryOf (r .store) (now (rows .exit)) (now (commits .entry))) (figureOf (r .answer)) ⌝ }
 {
     let used = store.used as usize;
     let k = client as usize;
@@ -72,7 +76,9 @@ fn replace_row(store: Store, rows: &mut [u8], commits: &[u8], at: usize, value: 
     requires { ⌜ fits store (length (now rows)) (length (now commits)) ≡ true ⌝ }
     requires { ⌜ at < store .used ⌝ }
     requires { ⌜ length (now value) ≡ 16 ⌝ }
-    ensures { λ r. ⌜ afterOf (r .store) (now (rows .exit)) (now (commits .entry)) (figureOf (r .answer)) ≡ encode store (now (rows .entry)) (now (commits .entry)) (replaced at (now (value .entry)) (decode store (now (rows .entry)) (now (commits .entry)))) ⌝ }
+    ensures { λ r. ⌜ Transforms (replaced at (now (value .entry)))
+        (memoryOf store (now (rows .entry)) (now (commits .entry)))
+        (memoryOf (r .store) (now (rows .exit)) (now (commits .entry))) (figureOf (r .answer)) ⌝ }
 {
     rows::replace_value(rows, at, value);
     FigureTurn {
@@ -90,7 +96,9 @@ pub fn write(
     cell: u32,
     value: &[u8],
 ) -> FigureTurn
-    ensures { λ r. ⌜ afterOf (r .store) (now (rows .exit)) (now (commits .entry)) (figureOf (r .answer)) ≡ onBytes (write client cell (now (value .entry))) store (now (rows .entry)) (now (commits .entry)) ⌝ }
+    ensures { λ r. ⌜ Performs (write client cell (now (value .entry)))
+        (memoryOf store (now (rows .entry)) (now (commits .entry)))
+        (memoryOf (r .store) (now (rows .exit)) (now (commits .entry))) (figureOf (r .answer)) ⌝ }
 {
     if !record::fit(store, rows.len(), commits.len()) {
         return record::no_figure(store, Refusal::Unfit);

@@ -23,8 +23,8 @@ enter-requires c κs = let f = fit-of _ _ _ (c .before .before .before .before .
 take-request-requires : tie.Need-take-request-requires
 take-request-requires c κs = search needs
 
-go-on-requires : tie.Need-go-on-requires
-go-on-requires c κs = search needs
+note-request-requires : tie.Need-note-request-requires
+note-request-requires c κs = search needs
 
 list-requests-requires : tie.Need-list-requests-requires
 list-requests-requires c κs = let f = fit-of _ _ _ (c .before .before .before .before .before .pre .1) in (omega arith, omega arith)
@@ -35,14 +35,14 @@ look-requests-requires c κs = search needs
 check-requires : tie.Need-check-requires
 check-requires c κs = search needs
 
-go-on-requires-2 : tie.Need-go-on-requires-2
-go-on-requires-2 c κs = search needs
+enter-commits-requires : tie.Need-enter-commits-requires
+enter-commits-requires c κs = search needs
 
 take-commit-requires : tie.Need-take-commit-requires
 take-commit-requires c κs = search needs
 
-go-on-requires-3 : tie.Need-go-on-requires-3
-go-on-requires-3 c κs = search needs
+note-commit-requires : tie.Need-note-commit-requires
+note-commit-requires c κs = search needs
 
 list-commits-requires : tie.Need-list-commits-requires
 list-commits-requires c κs = search needs
@@ -72,7 +72,7 @@ returns-2 : tie.Need-returns-2
 returns-2 c = rw (c .before .match .keys2) (c .take-request .ensures _ _)
 
 returns-3 : tie.Need-returns-3
-returns-3 c = rw (c .before .match .keys3) (c .go-on .ensures _ _)
+returns-3 c = rw (c .before .match .keys3) (c .note-request .ensures _ _)
 
 same-length-2 : tie.Need-same-length-2
 same-length-2 c = search needs
@@ -93,13 +93,13 @@ returns-6 : tie.Need-returns-6
 returns-6 c = rw (c .before .before .before .before .before .match .keys6) (c .before .before .check .ensures)
 
 returns-7 : tie.Need-returns-7
-returns-7 c = rw (c .before .match .keys7) (c .go-on2 .ensures _ _)
+returns-7 c = rw (c .before .match .keys7) (c .enter-commits .ensures _ _)
 
 returns-8 : tie.Need-returns-8
 returns-8 c = rw (c .before .match .keys8) (c .take-commit .ensures _ _)
 
 returns-9 : tie.Need-returns-9
-returns-9 c = rw (c .before .match .keys9) (c .go-on3 .ensures _ _)
+returns-9 c = rw (c .before .match .keys9) (c .note-commit .ensures _ _)
 
 returns-10 : tie.Need-returns-10
 returns-10 c = rw (c .before .match .keys10) (c .list-commits .ensures _ _)
@@ -139,13 +139,13 @@ step-spec =
     array-read-stage
     enter-requires
     take-request-requires
-    go-on-requires
+    note-request-requires
     list-requests-requires
     look-requests-requires
     check-requires
-    go-on-requires-2
+    enter-commits-requires
     take-commit-requires
-    go-on-requires-3
+    note-commit-requires
     list-commits-requires
     look-commits-requires
     add-commit-requires

@@ -62,4 +62,4 @@ decimal-spec =
     tie.close (tie.spec
     Inv-loop μ-loop returns (λ c. search needs) (λ c κs. search needs) returns-2 (λ c. search needs) loop-holds
     (λ c. search needs) (λ c κs. search needs) (λ c. search needs) returns-3 returns-4 (λ c. search needs)
-    (λ c. search needs) returns-5 (λ c. search needs) (λ c. search needs) loop-again (λ c. search needs) returns-6)
+    (λ c. search needs) (λ c. search needs) returns-5 (λ c. search needs) (λ c. search needs) loop-again (λ c. search needs) returns-6)
