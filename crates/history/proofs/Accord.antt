@@ -23,7 +23,7 @@ use Rattle.spec.specs.Steps.{queued, struck, others, goOn, enter, takeRequest, 
 use Rattle.spec.specs.declared.Progress.the-variants.{Conflict}
 use Rattle.spec.specs.Answers.{Answered}
 use Rattle.spec.specs.Bytes.{decode, storeOf, encode, known, fits, onBytes, accepts, setUp, Memory}
-use Rattle.spec.specs.Run.{Call, Begin, Read, Write, Advance, Abandon, perform, step}
+use Rattle.spec.specs.Run.{Call, Begin, Read, Write, Advance, Abandon, step}
 use Rattle.spec.specs.Table.{Open, Table, blank, override, onStage, update}
 use Rattle.spec.specs.Right.{observed}
 use Rattle.history.specs.Afterwards.{afterRun, tableAfter}

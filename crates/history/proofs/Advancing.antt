@@ -14,7 +14,7 @@ use borrow.Author.Tests.{eq-eqb, ne-eqb, eqb-true, leb-true, leb-false, not-true
 use lib.ListN.{length, getD}
 use lib.Dec.{eqb, leb}
 use Rattle.spec.specs.Set.{clients, member, size, collect, strike}
-use Rattle.spec.specs.Rows.{commitRow, hasTag}
+use Rattle.spec.specs.Rows.{commitRow, hasTag, cells}
 use Rattle.spec.proofs.Rows.{commitNumber-commitRow, commitTag-commitRow}
 use Rattle.spec.specs.declared.Number.{Number}
 use Rattle.spec.specs.declared.Number.the-variants.{Some, None}
@@ -24,7 +24,6 @@ use Rattle.spec.specs.Answers.{Answered, noClient, notOpen}
 use Rattle.spec.specs.Image.{Clients, Image, withClients, withRows, withRequested, withTaken, withLast, setRequest, setCommit, setRequestWaits, setCommitWaits, isOpen, stageOf, numberOf, snapshotOf, requestOf, commitNumberOf}
 use Rattle.spec.specs.Calls.{replies}
 use Rattle.spec.specs.Numbers.{top}
-use Rattle.spec.specs.Rows.{cells}
 use Rattle.spec.specs.Steps as st
 use Rattle.spec.specs.Steps.{requestQueue, commitQueue, struck, others, steps, noStep}
 use Rattle.spec.specs.Run.{Advance}
@@ -272,6 +271,6 @@ pub advance-does : (i : Image) (k : ℕ) → Ready i → Simulates i (Advance k)
 unfolding st.advance
 advance-does i k ready =
     simulates-if i (Advance k) (leb clients k)
-    (λ h. record { did = no-advance k noClient (past-number i (ready .fine .tidy) k (leb-true clients k h)) }) (λ h.
-    simulates-if i (Advance k) (not (isOpen i k)) (λ e. record { did = no-advance k notOpen (not-open i k e) }) (λ o.
+    (λ h. record { did = no-advance k noClient (omega arith) (past-number i (ready .fine .tidy) k (leb-true clients k h)) }) (λ h.
+    simulates-if i (Advance k) (not (isOpen i k)) (λ e. record { did = no-advance k notOpen (omega arith) (not-open i k e) }) (λ o.
     step-does i ready k (leb-false clients k h) (is-open i k o) (stageOf i k) refl (ready .fine .tidy .stage .each k)))

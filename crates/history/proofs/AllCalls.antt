@@ -4,7 +4,7 @@
 -- image again; on the record and the buffers the call does the same (`crossed`). After a refused set-up no client is open, and the refusal 2
 -- is right of a closed client.
 -- Assumes nothing.
-use Prim.Native.Nat.{ℕ, _-_, _/_, _≤_, _<_}
+use Prim.Native.Nat.{ℕ, suc, _-_, _/_, _≤_, _<_}
 use mathlib.Core.Path.{_≡_, refl, sym, ap, _∙_, subst}
 use mathlib.Core.Logic.{by-cases}
 use mathlib.Core.Bool.{Bool, true, false}
@@ -17,13 +17,13 @@ use Rattle.spec.specs.Answers.{Answer, Answered, Refused, unfit}
 use Rattle.spec.specs.Image.{Image, empty, numberOf, stageOf, commitNumberOf}
 use Rattle.spec.specs.Calls.{free}
 use Rattle.spec.specs.Numbers.{top}
-use Rattle.spec.specs.Bytes.{After, fits, limitOf, accepts, setUp, Memory}
+use Rattle.spec.specs.Bytes.{After, limitOf, accepts, setUp, Memory}
 use Rattle.spec.specs.Run.{Call, Begin, Read, Write, Advance, Abandon, Trim, Free, Result, perform, step}
 use Rattle.spec.specs.Table.{Table, blank, Observed, observeAnswer, update}
-use Rattle.spec.specs.Right.{Bounds, boundsOf, Right, numberAfter, observed, RightRun, AllUnfit, AllFit, Fit}
+use Rattle.spec.specs.Right.{Bounds, boundsOf, Right, nextAfter, observed, RightRun, for-store, AllUnfit, StaysFit, AllFit, Fit}
 use Rattle.history.proofs.Wellformed.{Wellformed, perform-kept, empty-fine}
 use Rattle.spec.proofs.Ends.{accepted}
-use Rattle.history.proofs.Bridge.{encoded, fits-whole, crossed, used-rows, firstImage, set-up-whole, first-fine, unused, refused-memory, refused-call}
+use Rattle.history.proofs.Bridge.{encoded, fits-whole, crossed, used-rows, firstImage, set-up-whole, unused, refused-memory, refused-call}
 use Rattle.history.proofs.Lists.{none-some}
 use Rattle.history.proofs.Model as m
 use Rattle.history.proofs.Model.{State}
@@ -32,7 +32,7 @@ use Rattle.history.proofs.Plain.{Plain, updateₚ}
 use Rattle.history.proofs.Invariant.{Inv}
 use Rattle.history.proofs.Arms.{cph-in}
 use Rattle.history.proofs.Transition.{Transition}
-use Rattle.history.proofs.Preserved.{good, Numbered, numbered, starts}
+use Rattle.history.proofs.Preserved.{good, never-2, Numbered, numbered, starts}
 use Rattle.history.proofs.Meets.{Under-state, keeps, R-left, C-left, start-under}
 use Rattle.history.proofs.Room.{Room-state, stays, room-left, start-room}
 use Rattle.history.proofs.View.{view, number-at, stage-at, commit-at, W-at, R-at, C-at, used-at, entries-at, free-at}
@@ -41,7 +41,7 @@ use Rattle.history.proofs.Advancing.{Ready}
 use Rattle.history.proofs.Walk.{perform-does, empty-view}
 use Rattle.history.proofs.Erase.{erase, erase-empty, feeds, right}
 
--- ---- what holds between two calls; w is the last number that a Begin has answered
+-- ---- what holds between two calls; w is the next number to be issued
 
 pub record Reached (bounds : Bounds) (w : ℕ) (i : Image) (p : Plain) : Type 0 where
   pub fine : Wellformed i
@@ -88,7 +88,7 @@ module _ {bounds : Bounds} {w : ℕ} {i : Image} {p : Plain} (g : Reached bounds
   pub took : Transition (view i) q (observedOutcome q (perform q i))
   took = perform-does q i (ready g) (omega (arith, within g, W-at i)) .did
 
-  pub good-next : Reached bounds (numberAfter q (told-by q i) w) (perform q i .image) (updateₚ p q (told-by q i))
+  pub good-next : Reached bounds (nextAfter q (told-by q i) w) (perform q i .image) (updateₚ p q (told-by q i))
   good-next = record {
     fine = perform-kept q i (g .fine) .fine;
     inv = good (g .inv) took .1;
@@ -142,16 +142,16 @@ all-right {bounds} (q ∷ qs) w i p g =
     let a : Answer (Observed q) = told-by q i in (
       subst (λ (x : Answer (Observed q)). Right bounds w (erase p) q x (step Free (step q (encoded i) .memory) .answer)) (sym e)
           (subst (λ (x : Answer ℕ). Right bounds w (erase p) q a x) (sym (free-next i h q)) (right-now g q)),
-      subst (λ (x : Answer (Observed q)). RightRun bounds (numberAfter q x w) (update q x (erase p)) (step q (encoded i) .memory) qs) (sym e)
-          (subst (λ (x : Memory). RightRun bounds (numberAfter q a w) (update q a (erase p)) x qs) (sym (same-memory i h q))
-          (subst (λ (x : Table). RightRun bounds (numberAfter q a w) x (encoded j) qs) (sym (fed g q)) (all-right qs (numberAfter q a w) j (updateₚ p q a) (good-next g q)))),
+      subst (λ (x : Answer (Observed q)). RightRun bounds (nextAfter q x w) (update q x (erase p)) (step q (encoded i) .memory) qs) (sym e)
+          (subst (λ (x : Memory). RightRun bounds (nextAfter q a w) (update q a (erase p)) x qs) (sym (same-memory i h q))
+          (subst (λ (x : Table). RightRun bounds (nextAfter q a w) x (encoded j) qs) (sym (fed g q)) (all-right qs (nextAfter q a w) j (updateₚ p q a) (good-next g q)))),
     )
 
-start-numbers : (b : Bounds) (w : ℕ) → w ≤ top → Numbered 0 (m.fresh b w .W)
+start-numbers : (b : Bounds) (w : ℕ) → w ≤ top → Numbered (suc w) (m.fresh b w .W)
 unfolding m.fresh
-start-numbers b w k = record { issued = omega arith; within = k }
+start-numbers b w k = record { issued = refl; within = k }
 
-pub start-good : (n l w : ℕ) → 1 ≤ n → n ≤ 1024 → w ≤ top → Reached (record { rows = n; limit = l }) 0 (empty n l w) own.emptyₚ
+pub start-good : (n l w : ℕ) → 1 ≤ n → n ≤ 1024 → w ≤ top → Reached (record { rows = n; limit = l }) (suc w) (empty n l w) own.emptyₚ
 start-good n l w h g k =
     let b : Bounds = record { rows = n; limit = l } in
     record {
@@ -159,22 +159,22 @@ start-good n l w h g k =
       inv = subst (λ (s : State). Inv b s own.emptyₚ) (sym (empty-view n l w)) (starts b w);
       under = subst Under-state (sym (empty-view n l w)) (start-under b w);
       room = subst Room-state (sym (empty-view n l w)) (start-room b w);
-      numbers = subst (λ (s : State). Numbered 0 (s .W)) (sym (empty-view n l w)) (start-numbers b w k);
+      numbers = subst (λ (s : State). Numbered (suc w) (s .W)) (sym (empty-view n l w)) (start-numbers b w k);
     }
 
 -- ---- a refused set-up
 
 refused-right : (n : Bounds) (w : ℕ) (q : Call) (next : Answer ℕ) → Right n w blank q (Refused unfit) next
 unfolding blank
-refused-right n w (Begin k) next = tt
+refused-right n w (Begin k) next = for-store refl
 refused-right n w (Read k x) next = λ o e. absurd (none-some refl e)
 refused-right n w (Write k x v) next = λ o e. absurd (none-some refl e)
 refused-right n w (Advance k) next = refl
-refused-right n w (Abandon k) next = tt
+refused-right n w (Abandon k) next = λ o e. absurd (none-some refl e)
 refused-right n w Trim next = tt
 refused-right n w Free next = tt
 
-refused-number : (q : Call) (w : ℕ) → numberAfter q (Refused unfit) w ≡ w
+refused-number : (q : Call) (w : ℕ) → nextAfter q (Refused unfit) w ≡ w
 refused-number (Begin k) w = refl
 refused-number (Read k x) w = refl
 refused-number (Write k x v) w = refl
@@ -196,47 +196,63 @@ refused-all n w d c (q ∷ qs) =
     let e = refused-call d c q in
     let f = refused-tells d c q in (
       subst (λ (x : Answer (Observed q)). Right n w blank q x (step Free (step q (unused d c) .memory) .answer)) (sym f) (refused-right n w q _),
-      subst (λ (x : Answer (Observed q)). RightRun n (numberAfter q x w) (update q x blank) (step q (unused d c) .memory) qs) (sym f)
-          (subst (λ (x : Memory). RightRun n (numberAfter q (Refused unfit) w) (update q (Refused unfit) blank) x qs) (sym (ap (λ (x : After (Result q)). x .memory) e))
+      subst (λ (x : Answer (Observed q)). RightRun n (nextAfter q x w) (update q x blank) (step q (unused d c) .memory) qs) (sym f)
+          (subst (λ (x : Memory). RightRun n (nextAfter q (Refused unfit) w) (update q (Refused unfit) blank) x qs) (sym (ap (λ (x : After (Result q)). x .memory) e))
           (subst (λ (x : ℕ). RightRun n x (update q (Refused unfit) blank) (unused d c) qs) (sym (refused-number q w))
           (subst (λ (x : Table). RightRun n w x (unused d c) qs) (sym (refused-told q)) (refused-all n w d c qs)))),
     )
 
 -- ---- every set-up
 
+-- what an accepted set-up hands back
+first-good : (d c : List ℕ) (w l : ℕ) → w ≤ 4294967295 → accepts (length d) (length c) w l ≡ true
+    → Reached (boundsOf d l) (suc (w - 1)) (firstImage d w l) own.emptyₚ
+first-good d c w l h e =
+    let a = accepted (length d) (length c) w l e in start-good (length d / 24) (limitOf l) (w - 1) (a .some) (a .most) (omega arith)
+
 -- Demand 3: for every set-up, refused or not, and every list of calls, each answer is right by the plain table that is told the calls and
 -- their answers. w is the first W, a number of 32 bits by its type.
-pub demand3 : (d c : List ℕ) (w l : ℕ) → w ≤ 4294967295 → (qs : List Call) → RightRun (boundsOf d l) 0 blank (setUp d c w l .memory) qs
+pub demand3 : (d c : List ℕ) (w l : ℕ) → w ≤ 4294967295 → (qs : List Call) → RightRun (boundsOf d l) w blank (setUp d c w l .memory) qs
 demand3 d c w l h qs = go (accepts (length d) (length c) w l) refl
   where
-    go : (b : Bool) → accepts (length d) (length c) w l ≡ b → RightRun (boundsOf d l) 0 blank (setUp d c w l .memory) qs
+    go : (b : Bool) → accepts (length d) (length c) w l ≡ b → RightRun (boundsOf d l) w blank (setUp d c w l .memory) qs
     go true e =
         let a = accepted (length d) (length c) w l e in
-        subst (λ (x : Memory). RightRun (boundsOf d l) 0 blank x qs) (sym (set-up-whole d c w l e))
-        (subst (λ (x : Table). RightRun (boundsOf d l) 0 x (encoded (firstImage d w l)) qs) erase-empty
-        (all-right qs 0 (firstImage d w l) own.emptyₚ (start-good (length d / 24) (limitOf l) (w - 1) (a .some) (a .most) (omega arith))))
+        let first : suc (w - 1) ≡ w = omega (arith, a .first) in
+        subst (λ (x : Memory). RightRun (boundsOf d l) w blank x qs) (sym (set-up-whole d c w l e))
+        (subst (λ (x : Table). RightRun (boundsOf d l) w x (encoded (firstImage d w l)) qs) erase-empty
+        (subst (λ (n : ℕ). RightRun (boundsOf d l) n (erase own.emptyₚ) (encoded (firstImage d w l)) qs) first
+        (all-right qs (suc (w - 1)) (firstImage d w l) own.emptyₚ (first-good d c w l h e))))
     go false e =
-        subst (λ (x : Memory). RightRun (boundsOf d l) 0 blank x qs) (sym (refused-memory d c w l e)) (refused-all (boundsOf d l) 0 d c qs)
+        subst (λ (x : Memory). RightRun (boundsOf d l) w blank x qs) (sym (refused-memory d c w l e)) (refused-all (boundsOf d l) w d c qs)
 
 -- After a refused set-up every call gets 2 and changes nothing.
 unfit-all : (d c : List ℕ) (qs : List Call) → AllUnfit (unused d c) qs
 unfit-all d c [] = tt
 unfit-all d c (q ∷ qs) =
     let e = refused-call d c q in
-    (ap (λ (x : After (Result q)). x .answer) e, (ap (λ (x : After (Result q)). x .memory) e, unfit-all d c qs))
+    (record { answer = ap (λ (x : After (Result q)). x .answer) e; memory = ap (λ (x : After (Result q)). x .memory) e }, unfit-all d c qs)
 
 pub all-unfit : (d c : List ℕ) (w l : ℕ) → accepts (length d) (length c) w l ≡ false → (qs : List Call) → AllUnfit (setUp d c w l .memory) qs
 all-unfit d c w l e qs = subst (λ (m : Memory). AllUnfit m qs) (sym (refused-memory d c w l e)) (unfit-all d c qs)
 
--- After one that is not refused the store is fit after each call, whatever the calls.
-fit-all : (qs : List Call) (i : Image) → Wellformed i → AllFit (encoded i) qs
-fit-all [] i h = tt
-fit-all (q ∷ qs) i h =
-    let e = crossed i h q in
-    let k = perform-kept q i h .fine in (
-      subst (λ (x : After (Result q)). Fit (x .memory)) (sym e) (fits-whole (perform q i .image) k),
-      subst (λ (x : After (Result q)). AllFit (x .memory) qs) (sym e) (fit-all qs (perform q i .image) k),
-    )
+-- After one that is not refused the store is fit after each call, and no call is refused with 2, whatever the calls.
+fit-now : {bounds : Bounds} {w : ℕ} {i : Image} {p : Plain} → Reached bounds w i p → (q : Call) → StaysFit q (encoded i)
+fit-now {bounds} {w} {i} {p} g q =
+    let e = crossed i (g .fine) q in
+    record {
+      after = subst (λ (x : After (Result q)). Fit (x .memory)) (sym e) (fits-whole (perform q i .image) (good-next g q .fine));
+      answer = λ r. never-2 (took g q) (ap (observeAnswer q (perform q i .image .dataRows)) (sym (ap (λ (x : After (Result q)). x .answer) e) ∙ r));
+    }
 
-pub all-fit : (d c : List ℕ) (w l : ℕ) → accepts (length d) (length c) w l ≡ true → (qs : List Call) → AllFit (setUp d c w l .memory) qs
-all-fit d c w l e qs = subst (λ (m : Memory). AllFit m qs) (sym (set-up-whole d c w l e)) (fit-all qs (firstImage d w l) (first-fine d c w l e))
+fit-all : {bounds : Bounds} (qs : List Call) (w : ℕ) (i : Image) (p : Plain) → Reached bounds w i p → AllFit (encoded i) qs
+fit-all [] w i p g = tt
+fit-all (q ∷ qs) w i p g = (
+  fit-now g q,
+  subst (λ (x : Memory). AllFit x qs) (sym (same-memory i (g .fine) q)) (fit-all qs _ (perform q i .image) _ (good-next g q)),
+)
+
+pub all-fit : (d c : List ℕ) (w l : ℕ) → w ≤ 4294967295 → accepts (length d) (length c) w l ≡ true → (qs : List Call) → AllFit (setUp d c w l .memory) qs
+all-fit d c w l h e qs =
+    subst (λ (m : Memory). AllFit m qs) (sym (set-up-whole d c w l e))
+    (fit-all qs (suc (w - 1)) (firstImage d w l) own.emptyₚ (first-good d c w l h e))

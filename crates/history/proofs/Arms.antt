@@ -54,19 +54,19 @@ sharing d t u h =
     (r .0, r .1, (e .0, rw (e .1) (h .2)))
 
 module _ {bounds : Bounds} {s : State} {p : Plain} (inv : Inv bounds s p) (a : ℕ) (isopen : 1 ≤ s .cl a .number) where
-  pub right-stage : (k : ℕ) → k ≡ suc (s .cl a .stage) → k ≢ 6 → k ≢ 12 → (k ≡ 1 → Wroteₚ (p .cl a)) → RightAdvanceₚ p a (Answered (Stage k))
-  right-stage k e m n w = (inv .one a .live isopen, (omega (arith, inv .one a .on-stage), w, λ h. absurd (m h), λ h. absurd (n h)))
+  pub right-stage : (k : ℕ) → k ≡ suc (s .cl a .stage) → k ≤ 13 → k ≢ 6 → k ≢ 12 → (k ≡ 1 → Wroteₚ (p .cl a)) → RightAdvanceₚ p a (Answered (Stage k))
+  right-stage k e l m n w = (inv .one a .live isopen, (omega (arith, inv .one a .on-stage), l, w, λ h. absurd (m h), λ h. absurd (n h)))
 
   -- A step to stage k that takes no commit number and makes no commit.
   module _ (c : Client) (f : Client → Client) (tame : Tame a f) (R : ℕ) (e : c .stage ≡ suc (s .cl a .stage))
       (number : c .number ≡ s .cl a .number) (snapshot : c .snapshot ≡ s .cl a .snapshot) (commit : c .commit ≡ s .cl a .commit)
-      (not8 : c .stage ≢ 8) (not12 : c .stage ≢ 12) (not6 : c .stage ≢ 6)
+      (most : c .stage ≤ 13) (not8 : c .stage ≢ 8) (not12 : c .stage ≢ 12) (not6 : c .stage ≢ 6)
       (wrote : c .stage ≡ 1 → Wroteₚ (p .cl a)) where
     pub goes : RQ (stepped s R (s .C) (putₛ a c f (s .cl))) → CQ (stepped s R (s .C) (putₛ a c f (s .cl)))
         → Good bounds s p (Advance a) (out (stepped s R (s .C) (putₛ a c f (s .cl))) (Answered (Stage (c .stage))))
     unfolding updateₚ onAdvanceₚ onProgressₚ
     goes rq cq = (
-      right-stage (c .stage) e not6 not12 wrote,
+      right-stage (c .stage) e most not6 not12 wrote,
       rw (onStage-moved p a (c .stage) not8 not12)
           (moves inv a c f tame R (s .C) (p .count) (p .cl a .commit) (inv .counted) (setP a (restaged (p .cl a) (c .stage) (p .cl a .commit)) (p .cl))
           (setP-at a _ (p .cl)) (setP-off a _ (p .cl)) number snapshot (late-step (s .cl a .stage) (c .stage) e not12) isopen (omega arith) rq cq
@@ -124,9 +124,9 @@ module _ {bounds : Bounds} {s : State} {p : Plain} (inv : Inv bounds s p) (a : �
   abbrev to : ℕ → Client
   to k = atStageₛ (s .cl a) k
 
-  module _ (k : ℕ) (e : k ≡ suc (s .cl a .stage)) (n6 : k ≢ 6) (n8 : k ≢ 8) (n12 : k ≢ 12) (wrote : k ≡ 1 → Wroteₚ (p .cl a)) where
+  module _ (k : ℕ) (e : k ≡ suc (s .cl a .stage)) (most : k ≤ 13) (n6 : k ≢ 6) (n8 : k ≢ 8) (n12 : k ≢ 12) (wrote : k ≡ 1 → Wroteₚ (p .cl a)) where
     simply : RQ (stepped s (s .R) (s .C) (putₛ a (to k) same (s .cl))) → CQ (stepped s (s .R) (s .C) (putₛ a (to k) same (s .cl))) → Good bounds s p (Advance a) (step-to s a k)
-    simply rq cq = goes (to k) same (tame-same a) (s .R) e refl refl refl n8 n12 n6 wrote rq cq
+    simply rq cq = goes (to k) same (tame-same a) (s .R) e refl refl refl most n8 n12 n6 wrote rq cq
 
   pub le : {x : ℕ} → x ≤ x
   le = omega arith
@@ -139,13 +139,13 @@ module _ {bounds : Bounds} {s : State} {p : Plain} (inv : Inv bounds s p) (a : �
 
   pub arm0 : s .cl a .stage ≡ 0 → HasRow (s .cl a .number) (s .dat) → Good bounds s p (Advance a) (step-to s a 1)
   unfolding rphase
-  arm0 e r = simply 1 (omega arith) (omega arith) (omega arith) (omega arith) (λ _. row-wrote (omega arith) r)
+  arm0 e r = simply 1 (omega arith) (omega arith) (omega arith) (omega arith) (omega arith) (λ _. row-wrote (omega arith) r)
       (R-low (to 1) same (tame-same a) refl (s .R) (s .C) le le (omega arith))
       (C-low (to 1) same (tame-same a) refl (s .R) (s .C) le le (omega (arith, cph-in 1 (omega arith))))
 
   pub arm1 : s .cl a .stage ≡ 1 → Good bounds s p (Advance a) (takeR s a)
   unfolding rphase takeR
-  arm1 e = goes c same (tame-same a) (suc (s .R)) (omega arith) refl refl refl (omega arith) (omega arith) (omega arith) (λ h. absurd (omega arith))
+  arm1 e = goes c same (tame-same a) (suc (s .R)) (omega arith) refl refl refl (omega arith) (omega arith) (omega arith) (omega arith) (λ h. absurd (omega arith))
       (R-taken c same (tame-same a) refl (suc (s .R)) (s .C) (omega arith) le (omega arith) refl refl)
       (C-low c same (tame-same a) refl (suc (s .R)) (s .C) (omega arith) le (omega (arith, cph-in 2 (omega arith))))
     where
@@ -154,7 +154,7 @@ module _ {bounds : Bounds} {s : State} {p : Plain} (inv : Inv bounds s p) (a : �
 
   pub arm2 : s .cl a .stage ≡ 2 → Good bounds s p (Advance a) (step-to s a 3)
   unfolding rphase
-  arm2 e = simply 3 (omega arith) (omega arith) (omega arith) (omega arith) (λ h. absurd (omega arith))
+  arm2 e = simply 3 (omega arith) (omega arith) (omega arith) (omega arith) (omega arith) (λ h. absurd (omega arith))
       (R-own (to 3) same (tame-same a) refl (s .R) (s .C) le le (λ d. refl) (omega arith) refl (λ h. absurd (omega arith)) (λ h. absurd (omega arith)))
       (C-low (to 3) same (tame-same a) refl (s .R) (s .C) le le (omega (arith, cph-in 3 (omega arith))))
 
@@ -163,7 +163,7 @@ module _ {bounds : Bounds} {s : State} {p : Plain} (inv : Inv bounds s p) (a : �
 
   pub arm3 : s .cl a .stage ≡ 3 → Good bounds s p (Advance a) (listR s a)
   unfolding rphase listR
-  arm3 e = goes c same (tame-same a) (s .R) (omega arith) refl refl refl (omega arith) (omega arith) (omega arith) (λ h. absurd (omega arith))
+  arm3 e = goes c same (tame-same a) (s .R) (omega arith) refl refl refl (omega arith) (omega arith) (omega arith) (omega arith) (λ h. absurd (omega arith))
       (R-own c same (tame-same a) refl (s .R) (s .C) le le (λ d. refl) (omega arith) refl
       (λ _ b n hb r l. listing-has (rph s) (λ b. sharing? (s .dat) (s .cl b .number) (s .cl a .number)) a b (open-below b (omega arith)) n (omega arith) (sharing (s .dat) _ _ r))
       (λ h. absurd (omega arith)))
@@ -173,12 +173,12 @@ module _ {bounds : Bounds} {s : State} {p : Plain} (inv : Inv bounds s p) (a : �
       c = withRwait (s .cl a) 4 (listing (rph s) (λ b. sharing? (s .dat) (s .cl b .number) (s .cl a .number)) a)
 
   -- A waiting client's place: nothing of the plain table changes.
-  waits : (c : Client) → c .stage ≡ s .cl a .stage → c .number ≡ s .cl a .number → c .snapshot ≡ s .cl a .snapshot → c .commit ≡ s .cl a .commit → (p .cl a .stage ≡ 4) ⊎ (p .cl a .stage ≡ 10) → (n : ℕ)
+  waits : (c : Client) → c .stage ≡ s .cl a .stage → c .number ≡ s .cl a .number → c .snapshot ≡ s .cl a .snapshot → c .commit ≡ s .cl a .commit → (p .cl a .stage ≡ 4) ⊎ (p .cl a .stage ≡ 10) → (n : ℕ) → n ≢ 0
       → RQ (stepped s (s .R) (s .C) (putₛ a c same (s .cl))) → CQ (stepped s (s .R) (s .C) (putₛ a c same (s .cl)))
       → Good bounds s p (Advance a) (out (stepped s (s .R) (s .C) (putₛ a c same (s .cl))) (Answered (Waiting n)))
   unfolding updateₚ onAdvanceₚ onProgressₚ
-  waits c e number snapshot commit at n rq cq = (
-    (inv .one a .live isopen, at),
+  waits c e number snapshot commit at n left rq cq = (
+    (inv .one a .live isopen, (at, omega (arith, left))),
     moves inv a c same (tame-same a) (s .R) (s .C) (p .count) (p .cl a .commit) (inv .counted) (p .cl)
         (rw (e, ← inv .one a .on-stage) refl) (λ b m. refl) number snapshot (ap lateness e) isopen (omega arith) rq cq
         (λ h. inv .one a .numbered (omega arith) ∙ sym commit)
@@ -191,12 +191,12 @@ module _ {bounds : Bounds} {s : State} {p : Plain} (inv : Inv bounds s p) (a : �
   unfolding rphase lookR
   arm4 e =
       ite-elim (Good bounds s p (Advance a)) (ℕ-discrete (listSize clients w) 0)
-      (λ z. goes (c 5) same (tame-same a) (s .R) (omega arith) refl refl refl (omega arith) (omega arith) (omega arith) (λ h. absurd (omega arith))
+      (λ z. goes (c 5) same (tame-same a) (s .R) (omega arith) refl refl refl (omega arith) (omega arith) (omega arith) (omega arith) (λ h. absurd (omega arith))
       (R-own (c 5) same (tame-same a) refl (s .R) (s .C) le le (λ d. refl) (omega arith) refl
       (λ h. absurd (omega arith))
       (λ _ b n hb r l. count-none clients w z b (open-below b (omega arith)) (still b n hb r l)))
       (C-low (c 5) same (tame-same a) refl (s .R) (s .C) le le (omega (arith, cph-in 5 (omega arith)))))
-      (λ z. waits (c 4) (sym e) refl refl refl (inl (inv .one a .on-stage ∙ e)) (listSize clients w)
+      (λ z. waits (c 4) (sym e) refl refl refl (inl (inv .one a .on-stage ∙ e)) (listSize clients w) z
       (R-own (c 4) same (tame-same a) refl (s .R) (s .C) le le (λ d. refl) (omega arith) refl (λ _. still) (λ h. absurd (omega arith)))
       (C-low (c 4) same (tame-same a) refl (s .R) (s .C) le le (omega (arith, cph-in 4 (omega arith)))))
     where
@@ -217,7 +217,7 @@ module _ {bounds : Bounds} {s : State} {p : Plain} (inv : Inv bounds s p) (a : �
     R-past = R-stay c f tame number (s .R) C le hC fr (omega arith) request (omega arith) wait
 
   pub arm6 : s .cl a .stage ≡ 6 → Good bounds s p (Advance a) (step-to s a 7)
-  arm6 e = simply 7 (omega arith) (omega arith) (omega arith) (omega arith) (λ h. absurd (omega arith))
+  arm6 e = simply 7 (omega arith) (omega arith) (omega arith) (omega arith) (omega arith) (λ h. absurd (omega arith))
       (R-past (to 7) same (tame-same a) (λ d. refl) refl (s .C) le (omega arith) (omega arith) refl refl)
       (C-low (to 7) same (tame-same a) refl (s .R) (s .C) le le (omega (arith, cph-in 7 (omega arith))))
 
@@ -228,7 +228,7 @@ module _ {bounds : Bounds} {s : State} {p : Plain} (inv : Inv bounds s p) (a : �
   pub arm7 : s .cl a .stage ≡ 7 → Good bounds s p (Advance a) (takeC s a)
   unfolding updateₚ onAdvanceₚ onProgressₚ takeC
   arm7 e = (
-    right-stage 8 (omega arith) (omega arith) (omega arith) (λ h. absurd (omega arith)),
+    right-stage 8 (omega arith) (omega arith) (omega arith) (omega arith) (λ h. absurd (omega arith)),
     rw onStage-took
         (moves inv a c same (tame-same a) (s .R) (suc (s .C)) (suc (p .count)) (suc (p .count)) (ap suc (inv .counted)) (setP a (restaged (p .cl a) 8 (suc (p .count))) (p .cl))
         (setP-at a _ (p .cl)) (setP-off a _ (p .cl)) refl refl (late-step (s .cl a .stage) 8 (omega arith) (omega arith)) isopen (omega arith)
@@ -244,7 +244,7 @@ module _ {bounds : Bounds} {s : State} {p : Plain} (inv : Inv bounds s p) (a : �
       c = withCommit (s .cl a) 8 (suc (s .C))
 
   pub arm8 : s .cl a .stage ≡ 8 → Good bounds s p (Advance a) (step-to s a 9)
-  arm8 e = simply 9 (omega arith) (omega arith) (omega arith) (omega arith) (λ h. absurd (omega arith))
+  arm8 e = simply 9 (omega arith) (omega arith) (omega arith) (omega arith) (omega arith) (λ h. absurd (omega arith))
       (R-past (to 9) same (tame-same a) (λ d. refl) refl (s .C) le (omega arith) (omega arith) refl refl)
       (C-own (to 9) same (tame-same a) refl (s .R) (s .C) le le (λ d. refl) (omega (arith, cph-in (s .cl a .stage) (omega arith))) refl
       (λ h. absurd (omega (arith, cph-in 9 (omega arith)))) (λ h. absurd (omega (arith, cph-in 9 (omega arith)))))
@@ -255,7 +255,7 @@ module _ {bounds : Bounds} {s : State} {p : Plain} (inv : Inv bounds s p) (a : �
 
   pub arm9 : s .cl a .stage ≡ 9 → Good bounds s p (Advance a) (listC s a)
   unfolding listC
-  arm9 e = goes c same (tame-same a) (s .R) (omega arith) refl refl refl (omega arith) (omega arith) (omega arith) (λ h. absurd (omega arith))
+  arm9 e = goes c same (tame-same a) (s .R) (omega arith) refl refl refl (omega arith) (omega arith) (omega arith) (omega arith) (λ h. absurd (omega arith))
       (R-past c same (tame-same a) (λ d. refl) refl (s .C) le (omega arith) (omega arith) refl refl)
       (C-own c same (tame-same a) refl (s .R) (s .C) le le (λ d. refl) (omega (arith, cph-in (s .cl a .stage) (omega arith))) refl
       (λ _ b n hb r l. listing-has (cph s) {P = λ _. Unit {0}} (λ _. yes tt) a b (cph-below b (omega arith)) n (omega arith) tt)
@@ -268,12 +268,12 @@ module _ {bounds : Bounds} {s : State} {p : Plain} (inv : Inv bounds s p) (a : �
   unfolding lookC
   arm10 e =
       ite-elim (Good bounds s p (Advance a)) (ℕ-discrete (listSize clients w) 0)
-      (λ z. goes (c 11) same (tame-same a) (s .R) (omega arith) refl refl refl (omega arith) (omega arith) (omega arith) (λ h. absurd (omega arith))
+      (λ z. goes (c 11) same (tame-same a) (s .R) (omega arith) refl refl refl (omega arith) (omega arith) (omega arith) (omega arith) (λ h. absurd (omega arith))
       (R-past (c 11) same (tame-same a) (λ d. refl) refl (s .C) le (omega arith) (omega arith) refl refl)
       (C-own (c 11) same (tame-same a) refl (s .R) (s .C) le le (λ d. refl) (omega (arith, cph-in (s .cl a .stage) (omega arith))) refl
       (λ h. absurd (omega (arith, cph-in 11 (omega arith))))
       (λ _ b n hb r l. count-none clients w z b (cph-below b (omega arith)) (still b n hb r l))))
-      (λ z. waits (c 10) (sym e) refl refl refl (inr (inv .one a .on-stage ∙ e)) (listSize clients w)
+      (λ z. waits (c 10) (sym e) refl refl refl (inr (inv .one a .on-stage ∙ e)) (listSize clients w) z
       (R-past (c 10) same (tame-same a) (λ d. refl) refl (s .C) le (omega arith) (omega arith) refl refl)
       (C-own (c 10) same (tame-same a) refl (s .R) (s .C) le le (λ d. refl) (omega (arith, cph-in (s .cl a .stage) (omega arith))) refl (λ _. still)
       (λ h. absurd (omega (arith, cph-in 10 (omega arith))))))
@@ -290,6 +290,6 @@ module _ {bounds : Bounds} {s : State} {p : Plain} (inv : Inv bounds s p) (a : �
           ∙ inv .cq .listed b a n hb (omega (arith, cph-in (s .cl a .stage) (omega arith))) r l
 
   pub arm12 : s .cl a .stage ≡ 12 → Good bounds s p (Advance a) (out (withClientsₛ s (putₛ a (atStageₛ (clearC a (s .cl a)) 13) (clearC a) (s .cl))) (Answered (Stage 13)))
-  arm12 e = goes (atStageₛ (clearC a (s .cl a)) 13) (clearC a) (tame-C a) (s .R) (omega arith) refl refl refl (omega arith) (omega arith) (omega arith) (λ h. absurd (omega arith))
+  arm12 e = goes (atStageₛ (clearC a (s .cl a)) 13) (clearC a) (tame-C a) (s .R) (omega arith) refl refl refl (omega arith) (omega arith) (omega arith) (omega arith) (λ h. absurd (omega arith))
       (R-past (atStageₛ (clearC a (s .cl a)) 13) (clearC a) (tame-C a) (λ d. refl) refl (s .C) le (omega arith) (omega arith) refl refl)
       (C-low (atStageₛ (clearC a (s .cl a)) 13) (clearC a) (tame-C a) refl (s .R) (s .C) le le (omega (arith, cph-out 13 (omega arith))))

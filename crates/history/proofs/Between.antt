@@ -80,11 +80,11 @@ module _ (W : ℕ → Type 0) (P : Progress → Type 0) (k : ℕ) (Q : Open → 
       → ((b : Observed q) → a ≡ Answered b → Spares W P k q b) → HoldsIn k Q t → HoldsIn k Q (update q a t)
   unfolding update
   call-spares n w t q (Refused m) next r c s = s
-  call-spares n w t (Begin j) (Answered a) next r c s = other k Q (t .clients) (t .book) s j _ (λ e. none-some (ap (t .clients) (sym e) ∙ r .0) (s .1))
+  call-spares n w t (Begin j) (Answered a) next r c s = other k Q (t .clients) (t .book) s j _ (λ e. none-some (ap (t .clients) (sym e) ∙ r .closed) (s .1))
   call-spares n w t (Read j y) (Answered a) next r c s = s
   call-spares n w t (Write j y b) (Answered a) next r c s =
-      rw (r .1) (entry k Q (t .clients) (t .book) s j (r .0) _ (r .1) (λ e. l .wrote (r .0) (t .book) y b (c a refl e)))
-  call-spares n w t (Advance j) (Answered (Stage g)) next r c s = rw (r .1) (stage-spares t j g (r .0) (r .1) (r .2 .0) (c (Stage g) refl) s)
+      rw (r .found) (entry k Q (t .clients) (t .book) s j (r .entry) _ (r .found) (λ e. l .wrote (r .entry) (t .book) y b (c a refl e)))
+  call-spares n w t (Advance j) (Answered (Stage g)) next r c s = rw (r .found) (stage-spares t j g (r .entry) (r .found) (r .progress .next) (c (Stage g) refl) s)
   call-spares n w t (Advance j) (Answered (Waiting m)) next r c s = s
   call-spares n w t (Advance j) (Answered (Conflict m)) next r c s =
       other k Q (t .clients) (t .book) s j none (λ e. l .conflict m (c (Conflict m) refl e))

@@ -43,7 +43,7 @@ module _ (P : Values → List Commit → Type 0)
   unfolding onStage
   stage-keeps t o k g r h =
       by-branch (λ s. P (s .values) (s .book)) (eqb g 8) (λ _. h)
-      (λ _. by-branch (λ s. P (s .values) (s .book)) (eqb g 12) (λ e. made k t o (r .1 .1 .1 (eqb-true g 12 e) .1) h) (λ _. h))
+      (λ _. by-branch (λ s. P (s .values) (s .book)) (eqb g 12) (λ e. made k t o (r .made (eqb-true g 12 e) .above) h) (λ _. h))
 
   call-keeps : (n : Bounds) (w : ℕ) (t : Table) (q : Call) (a : Answer (Observed q)) (next : Answer ℕ) → Right n w t q a next → P (t .values) (t .book)
       → P (update q a t .values) (update q a t .book)
@@ -51,8 +51,8 @@ module _ (P : Values → List Commit → Type 0)
   call-keeps n w t q (Refused m) next r h = h
   call-keeps n w t (Begin k) (Answered a) next r h = h
   call-keeps n w t (Read k x) (Answered a) next r h = h
-  call-keeps n w t (Write k x v) (Answered a) next r h = rw (r .1) h
-  call-keeps n w t (Advance k) (Answered (Stage g)) next r h = rw (r .1) (stage-keeps t (r .0) k g (r .2) h)
+  call-keeps n w t (Write k x v) (Answered a) next r h = rw (r .found) h
+  call-keeps n w t (Advance k) (Answered (Stage g)) next r h = rw (r .found) (stage-keeps t (r .entry) k g (r .progress) h)
   call-keeps n w t (Advance k) (Answered (Waiting m)) next r h = h
   call-keeps n w t (Advance k) (Answered (Conflict m)) next r h = h
   call-keeps n w t (Advance k) (Answered (Done m)) next r h = h

@@ -181,11 +181,11 @@ module _ (s : State) (idle : (b : ℕ) → s .cl b .number ≡ 0 → s .cl b .st
 
   pub change : {q : Call} {o : Out (Answer (Observed q))} → Transition s q o → Change s q o
   unfolding overwritten addedₛ trimmedₛ takeR takeC listR listC committed closedₛ
-  change (no-begin a r m) = rests _ refl refl refl refl (λ _. refl) (λ b z. absurd (false≢true z))
-  change (no-read a y r m) = rests _ refl refl refl refl (λ _. refl) (λ b z. absurd (false≢true z))
-  change (no-write a y v r m) = rests _ refl refl refl refl (λ _. refl) (λ b z. absurd (false≢true z))
-  change (no-advance a r m) = rests {q = Advance a} {x = Refused r} _ refl refl refl refl (λ b. lasts (eqb a b) StillOpen refl) (refused a m)
-  change (no-abandon a r m) =
+  change (no-begin a r d m) = rests _ refl refl refl refl (λ _. refl) (λ b z. absurd (false≢true z))
+  change (no-read a y r d m) = rests _ refl refl refl refl (λ _. refl) (λ b z. absurd (false≢true z))
+  change (no-write a y v r d m) = rests _ refl refl refl refl (λ _. refl) (λ b z. absurd (false≢true z))
+  change (no-advance a r d m) = rests {q = Advance a} {x = Refused r} _ refl refl refl refl (λ b. lasts (eqb a b) StillOpen refl) (refused a m)
+  change (no-abandon a r d m) =
       rests {q = Abandon a} {x = Refused r} _ refl refl refl refl (λ b. lasts (eqb a b) StillOpen refl) (λ b z. absurd (false≢true z))
   change (begins a h was w) = starts a h was
   change (reads a y h o e) = rests _ refl refl refl refl (λ _. refl) (λ b z. absurd (false≢true z))
@@ -218,7 +218,7 @@ module _ (s : State) (idle : (b : ℕ) → s .cl b .number ≡ 0 → s .cl b .st
   change (abandons a h o k) =
       ends {q = Abandon a} {x = figured (removedₛ s a) .answer} a _ refl
       (λ z. false≢true (sym (ap isOver z) ∙ ap (λ (c : Bool). isOver (if c then Abandoned else StillOpen)) (eq-eqb a a refl)))
-  change trims = rests _ refl refl refl refl (λ _. refl) (λ b z. absurd (false≢true z))
+  change (trims fits) = rests _ refl refl refl refl (λ _. refl) (λ b z. absurd (false≢true z))
   change frees = rests _ refl refl refl refl (λ _. refl) (λ b z. absurd (false≢true z))
 
 -- ---- what goes by the four

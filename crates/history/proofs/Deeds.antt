@@ -2,7 +2,7 @@
 -- past its wait wrote a cell that this client wrote (`no-share`, by the request queue), so all others stay fresh, and nobody else that has a
 -- commit number has a smaller one (`first-one`, by the commit queue), so numbers in the book rise.
 -- Assumes nothing.
-use Prim.Native.Nat.{ℕ, zero, suc, min, _≤_, _<_}
+use Prim.Native.Nat.{ℕ, zero, suc, _+_, _-_, min, _≤_, _<_}
 use mathlib.Core.Path.{_≡_, refl, sym, _∙_, ap, subst, fun-ext}
 use mathlib.Core.Logic.{_≢_, inl, inr, if-pos, if-neg, by-cases}
 use mathlib.Core.Bool.{false, true≢false}
@@ -10,9 +10,10 @@ use mathlib.Core.List.{List, _∷_, List·Memᴰ·head as here, List·Memᴰ·ta
 use mathlib.Core.Option.{Option, none, some, IsSome, Option·some-injective}
 use native.Mathlib.Decide.{ℕ-discrete, decLe, decLt}
 use native.Mathlib.Omega.{arith}
-use Rattle.history.proofs.Lists.{in-case, none-some, option-case}
+use lib.ListN.{length}
+use Rattle.history.proofs.Lists.{in-case, length-drop?, none-some, option-case}
 use Rattle.history.proofs.Tickets.{TicketQueue, low, exclusive}
-use Rattle.history.proofs.Model.{newcomer, DRow, Client, State, findₛ, writesOf, rphase, cphase, rph, cph, putₛ, same, closedₛ, clearBoth, atStageₛ, out, checkedₛ, committed, begunₛ, lookup, committedAt, figured, freeₛ, without, leave, removedₛ, withData, trimmedₛ, smallestₛ, checkKey, snapshots, lesserₛ, default, lowₛ as lowOf}
+use Rattle.history.proofs.Model.{newcomer, DRow, Client, State, findₛ, writesOf, rphase, cphase, rph, cph, putₛ, same, closedₛ, clearBoth, atStageₛ, out, checkedₛ, committed, begunₛ, lookup, committedAt, figured, freeₛ, without, leave, removedₛ, withData, trimmedₛ, smallestₛ, checkKey, snapshots, lesserₛ, default, passed?, lowₛ as lowOf}
 use Rattle.history.proofs.Plain.{restaged, onProgressₚ, opening, rewritten, Entry, PClient, Plain, NoClashₚ, setP, updateₚ, onBeginₚ, onWriteₚ, onAbandonₚ, onAdvanceₚ, onStageₚ, onCommitₚ, onCloseₚ, none-yet, Sharesₚ}
 use Rattle.history.proofs.Invariant.{Reader, readerOf, lateness, Tab, OneClient, Rel, Always, Inv}
 use Rattle.history.proofs.Moves.{put-at, put-off, setP-at, setP-off, each, Tame, tame-same, tame-both, others-R, others-C, moves, seenOf, seen-off, seen-at, one-off}
@@ -27,6 +28,7 @@ use Rattle.spec.specs.declared.Progress.the-variants.{Done}
 use Rattle.spec.specs.Answers.{Answered, cellLimit, noFreeRow}
 use Rattle.spec.specs.Run.{Begin, Read, Write, Advance, Abandon, Trim}
 use Rattle.spec.specs.Set.{clients}
+use Rattle.spec.specs.Numbers.{top}
 use Rattle.spec.specs.Rows.{cells}
 
 module _ {bounds : Bounds} {s : State} {p : Plain} (inv : Inv bounds s p) (a : ℕ) where
@@ -49,10 +51,10 @@ module _ {bounds : Bounds} {s : State} {p : Plain} (inv : Inv bounds s p) (a : �
     C-out : TicketQueue (λ b. cphase (putₛ a c f (s .cl) b .stage)) (λ b. putₛ a c f (s .cl) b .commit) (λ b. putₛ a c f (s .cl) b .cwait) (s .C) Always
     C-out = low a (inv .cq) (others-C a c f tame (s .cl) (omega arith)) (rw (put-at a c f (s .cl), h) (omega (arith, cph-in 0 (omega arith))))
 
-  pub begin-good : a < clients → s .cl a .number ≡ 0 → Good bounds s p (Begin a) (begunₛ s a)
+  pub begin-good : a < clients → s .cl a .number ≡ 0 → s .W < top → Good bounds s p (Begin a) (begunₛ s a)
   unfolding begunₛ updateₚ onBeginₚ lateness
-  begin-good h was = (
-    (inv .one a .dead was, sym (inv .tab .book-last), refl),
+  begin-good h was left = (
+    (inv .one a .dead was, sym (inv .tab .book-last), refl, left, h),
     record {
       same-bounds = inv .same-bounds;
       counted = inv .counted;
@@ -124,7 +126,7 @@ module _ {bounds : Bounds} {s : State} {p : Plain} (inv : Inv bounds s p) (a : �
 
   pub abandon-good : 1 ≤ s .cl a .number → s .cl a .stage < 12 → Good bounds s p (Abandon a) (figured (removedₛ s a))
   unfolding updateₚ onAbandonₚ
-  abandon-good isopen h = ((inv .one a .live isopen, omega (arith, inv .one a .on-stage)), leaves-removed isopen (omega arith))
+  abandon-good isopen h = ((inv .one a .live isopen, omega (arith, inv .one a .on-stage), refl), leaves-removed isopen (omega arith))
 
   pub arm13 : 1 ≤ s .cl a .number → s .cl a .stage ≡ 13 → Good bounds s p (Advance a) (out (leave s a (s .dat)) (Answered (Done (s .cl a .commit))))
   unfolding updateₚ onAdvanceₚ onProgressₚ lateness
@@ -153,7 +155,7 @@ module _ {bounds : Bounds} {s : State} {p : Plain} (inv : Inv bounds s p) (a : �
     passes : NoClashₚ p a → Good bounds s p (Advance a) (checkedₛ s a none)
     unfolding checkedₛ updateₚ onAdvanceₚ onProgressₚ
     passes h = (
-      (inv .one a .live isopen, (omega (arith, inv .one a .on-stage), λ k. absurd (omega arith), λ _. h, λ k. absurd (omega arith))),
+      (inv .one a .live isopen, (omega (arith, inv .one a .on-stage), omega arith, λ k. absurd (omega arith), λ _. h, λ k. absurd (omega arith))),
       rw (onStage-moved p a 6 (omega arith) (omega arith))
           (moves inv a (atStageₛ (s .cl a) 6) same (tame-same a) (s .R) (s .C) (p .count) (p .cl a .commit) (inv .counted) (setP a (restaged (p .cl a) 6 (p .cl a .commit)) (p .cl))
           (setP-at a _ (p .cl)) (setP-off a _ (p .cl)) refl refl (late-step (s .cl a .stage) 6 (omega arith) (omega arith)) isopen (omega arith)
@@ -213,6 +215,7 @@ module _ {bounds : Bounds} {s : State} {p : Plain} (inv : Inv bounds s p) (a : �
         inv .one a .live isopen,
         (
           omega (arith, inv .one a .on-stage),
+          omega arith,
           λ k. absurd (omega arith),
           λ k. absurd (omega arith),
           λ _. (
@@ -308,7 +311,7 @@ module _ {bounds : Bounds} {s : State} {p : Plain} (inv : Inv bounds s p) (a : �
     pub write-good : (dat′ : List DRow) → Written (s .cl a .number) x v (s .dat) dat′ → Good bounds s p (Write a x v) (figured (withData s dat′ (s .cl)))
     unfolding updateₚ onWriteₚ rphase lateness
     write-good dat′ w = (
-      (inv .one a .live isopen, by-table (λ b g w. WriteAllowed b g w x v) isopen (fits .may .stage) fits),
+      (inv .one a .live isopen, by-table (λ b g w. WriteAllowed b g w x v) isopen (fits .may .stage) fits, refl),
       record {
         same-bounds = inv .same-bounds;
         counted = inv .counted;
@@ -413,10 +416,15 @@ module _ {bounds : Bounds} {s : State} {p : Plain} (inv : Inv bounds s p) where
   unfolding rphase
   nobody = by-cases (ℕ-discrete (s .cl clients .number) 0) (λ e. omega (arith, inv .one clients .idle e)) (λ n. absurd (omega (arith, inv .one clients .below (omega arith))))
 
-  pub trim-good : Good bounds s p Trim (trimmedₛ s)
+  -- the free figure that it leaves, and the rows in use
+  figure : (d : List DRow) → length d ≤ length (s .dat) → length (s .dat) ≤ s .bounds .rows → s .bounds .rows - length d + length d ≡ bounds .rows
+  figure d l h = omega (arith, l, h, ap (λ (b : Bounds). b .rows) (inv .same-bounds))
+
+  pub trim-good : length (s .dat) ≤ s .bounds .rows → Good bounds s p Trim (trimmedₛ s)
   unfolding trimmedₛ updateₚ freeₛ
-  trim-good = (
-    λ h. rw (low-none (all-closed h), trim-count (inv .tab) (all-closed h), inv .same-bounds),
+  trim-good fits = (
+    λ h. rw (low-none (all-closed h), ← trim-count (inv .tab) (all-closed h))
+        (figure (trimDat (s .dat) (s .comm) (s .last)) (length-drop? (passed? (s .dat) (s .comm) (s .last)) (s .dat)) fits),
     record {
       same-bounds = inv .same-bounds;
       counted = inv .counted;

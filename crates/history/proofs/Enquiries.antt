@@ -54,19 +54,19 @@ begin-holds k w b t r = (
     stage = refl;
     nothing = λ h. false≢true (h .1);
     since = omega arith;
-    number = ap lastNumber (take-length (t .book)) ∙ sym (r .1 .0);
+    number = ap lastNumber (take-length (t .book)) ∙ sym (r .snapshot);
   },
 )
 
 -- a right answer to the Advance of such a client
 finishes : (s k : ℕ) (t : Table) → HoldsIn k (Looks s) t → (a : Answer Progress) → RightAdvance t k a → a ≡ Answered (Done s)
 finishes s k t h (Refused n) r = absurd (none-some r (h .1))
-finishes s k t h (Answered a) r = ap (λ (y : Progress). Answered y) (only a (subst (λ (o : Open). RightProgress t o a) (same-some (sym (r .1) ∙ h .1)) (r .2)))
+finishes s k t h (Answered a) r = ap (λ (y : Progress). Answered y) (only a (subst (λ (o : Open). RightProgress t o a) (same-some (sym (r .found) ∙ h .1)) (r .progress)))
   where
     only : (a : Progress) → RightProgress t (h .0) a → a ≡ Done s
-    only (Stage g) p = absurd (h .2 .nothing (p .1 .0 (omega (arith, p .0, h .2 .stage))))
-    only (Waiting n) p = ⊎-elim (λ e. absurd (omega (arith, e, h .2 .stage))) (λ e. absurd (omega (arith, e, h .2 .stage))) p
-    only (Conflict n) p = absurd (omega (arith, p .0, h .2 .stage))
+    only (Stage g) p = absurd (h .2 .nothing (p .wrote (omega (arith, p .next, h .2 .stage))))
+    only (Waiting n) p = ⊎-elim (λ e. absurd (omega (arith, e, h .2 .stage))) (λ e. absurd (omega (arith, e, h .2 .stage))) (p .stage)
+    only (Conflict n) p = absurd (omega (arith, p .stage, h .2 .stage))
     only (Done n) p = ⊎-elim (λ d. absurd (omega (arith, d .from, h .2 .stage))) (λ d. ap (λ (y : ℕ). Done y) (d .number ∙ h .2 .number)) p
 
 pub enquiry-run : (qs : List Call) (n : Bounds) (w : ℕ) (t : Table) (m : Memory) → RightRun n w t m qs → Enquiry m qs

@@ -22,7 +22,7 @@ use Rattle.spec.specs.Answers.{Answer, Answered, Refused}
 use Rattle.spec.specs.Run.{Call, Begin, Read, Write, Advance, Abandon, Trim, Free}
 use Rattle.spec.specs.Table.{has, Commit, Open, Table, blank, override, onStage, Observed, update}
 use Rattle.spec.specs.Right as r
-use Rattle.spec.specs.Right.{Bounds, lastNumber, Clash, RightRefusal, ReadRefusal, WriteRefusal}
+use Rattle.spec.specs.Right.{Bounds, lastNumber, Clash, BeginRefusal, ReadRefusal, WriteRefusal, AbandonRefusal}
 use Rattle.history.proofs.Lists.{in-nil, in-case, in-one, in-left, in-right, append-case, none-some, same-some}
 use Rattle.history.proofs.Counts.{has-some, some-has}
 use Rattle.history.proofs.Plain as own
@@ -76,6 +76,14 @@ none-dead q e = go (q .live) refl e
     go : (b : Bool) → q .live ≡ b → (if b then some (openOf q) else none) ≡ none → q .live ≡ false
     go true l e = absurd (none-some e refl)
     go false l e = l
+
+has-live : (q : PClient) → has (openClient q) ≡ q .live
+unfolding openClient
+has-live q = go (q .live)
+  where
+    go : (b : Bool) → has (if b then some (openOf q) else none) ≡ b
+    go true = refl
+    go false = refl
 
 -- one client replaced, in either table
 choice : (b : Bool) (x y : PClient) → (if b then openClient x else openClient y) ≡ openClient (if b then x else y)
@@ -233,25 +241,23 @@ module _ (p : Plain) (k : ℕ) where
   no-clash : own.NoClashₚ p k → r.NoClash (erase p) (openOf (p .cl k))
   no-clash n e c = let x = clash e c in n (x .0) (x .2 .0) (x .2 .1)
 
-  six : (n : ℕ) → own.Six p k n → RightRefusal (openClient (p .cl k)) n
-  unfolding openClient
-  six n h = go (p .cl k .live) refl
-    where
-      go : (b : Bool) → p .cl k .live ≡ b → RightRefusal (if b then some (openOf (p .cl k)) else none) n
-      go true l = λ e g. h e l g
-      go false l = tt
-
   progress : (a : Progress) → own.RightProgressₚ p k a → r.RightProgress (erase p) (openOf (p .cl k)) a
   unfolding erase commitEntry
-  progress (Stage g) h = (
-    omega (arith, h .0),
-    (λ e. let w = h .1 e in (w .0, some-has (p .cl k .writes (w .0)) (w .1)), (λ e. no-clash (h .2 e), λ e. (no-clash (h .3 e .0), rw (last-aged (p .book)) (h .3 e .1)))),
-  )
-  progress (Waiting n) h = h
-  progress (Conflict n) h = (
-    h .0,
-    ((commitEntry (h .1 .0), h .1 .1, clash-back (h .1 .0) (h .1 .2)), λ e c. let x = clash e c in rw (x .1) (h .2 (x .0) (x .2))),
-  )
+  progress (Stage g) h = record {
+    next = omega (arith, h .0);
+    most = h .1;
+    wrote = λ e. let w = h .2 e in (w .0, some-has (p .cl k .writes (w .0)) (w .1));
+    passed = λ e. no-clash (h .3 e);
+    made = λ e. record { alone = no-clash (h .4 e .0); above = rw (last-aged (p .book)) (h .4 e .1) };
+  }
+  progress (Waiting n) h = record { stage = h .0; left = h .1 }
+  progress (Conflict n) h = record {
+    stage = h .0;
+    commit = commitEntry (h .1 .0);
+    number = h .1 .1;
+    clash = clash-back (h .1 .0) (h .1 .2);
+    smallest = λ e c. let x = clash e c in rw (x .1) (h .2 (x .0) (x .2));
+  }
   progress (Done n) (inl h) = inl record { from = h .0; number = h .1; booked = (commitEntry (h .2 .0), h .2 .2, aged-in (h .2 .0) (p .book) (h .2 .1)) }
   progress (Done n) (inr h) = inr record {
     from = h .0;
@@ -259,22 +265,34 @@ module _ (p : Plain) (k : ℕ) where
     number = h .2 ∙ sym (ap lastNumber (take-aged (p .cl k .since) (p .book)) ∙ last-aged (olderₚ (p .cl k .since) (p .book)));
   }
 
-module _ (bounds : Bounds) (w W : ℕ) (rises : w ≤ W) (p : Plain) where
+same-figure : {m n : ℕ} → m ≡ n → Answered n ≡ Answered m
+same-figure e = sym (ap (λ (z : ℕ). Answered z) e)
+
+module _ (bounds : Bounds) (w W : ℕ) (issued : w ≡ suc W) (p : Plain) where
   pub right : (q : Call) (a : Answer (Observed q)) (free : ℕ) → own.Rightₚ bounds W p q a free → r.Right bounds w (erase p) q a (Answered free)
   unfolding erase
-  right (Begin k) (Answered b) free h = (dead-none (p .cl k) (h .0), (h .1 ∙ sym (last-aged (p .book)), omega (arith, h .2)))
-  right (Begin k) (Refused n) free h = six p k n h
-  right (Read k x) (Answered v) free h = (openOf (p .cl k), live-some (p .cl k) (h .0), h .1, h .2, h .3)
+  right (Begin k) (Answered b) free h = record {
+    client = h .4;
+    closed = dead-none (p .cl k) (h .0);
+    number = h .2 ∙ sym issued;
+    most = omega (arith, h .2, h .3);
+    snapshot = h .1 ∙ sym (last-aged (p .book));
+  }
+  right (Begin k) (Refused n) free h =
+      subst (λ (z : ℕ). BeginRefusal z k (has (openClient (p .cl k))) n) (sym issued)
+      (subst (λ (b : Bool). BeginRefusal (suc W) k b n) (sym (has-live (p .cl k))) h)
+  right (Read k x) (Answered v) free h = record { entry = openOf (p .cl k); found = live-some (p .cl k) (h .0); value = h .1; stage = h .2; cell = h .3 }
   right (Read k x) (Refused n) free h =
       λ o e. let y = some-live (p .cl k) o e in subst (λ (z : Open). ReadRefusal x (z .stage) n) (y .1) (h (y .0))
-  right (Write k x v) (Answered n) free h = (openOf (p .cl k), live-some (p .cl k) (h .0), h .1)
+  right (Write k x v) (Answered n) free h = record { entry = openOf (p .cl k); found = live-some (p .cl k) (h .0); allowed = h .1; figure = same-figure (h .2) }
   right (Write k x v) (Refused n) free h =
       λ o e. let y = some-live (p .cl k) o e in subst (λ (z : Open). WriteRefusal (bounds .limit) (z .stage) (z .writes) x v (Answered free) n) (y .1) (h (y .0))
-  right (Advance k) (Answered a) free h = (openOf (p .cl k), live-some (p .cl k) (h .0), progress p k a (h .1))
+  right (Advance k) (Answered a) free h = record { entry = openOf (p .cl k); found = live-some (p .cl k) (h .0); progress = progress p k a (h .1) }
   right (Advance k) (Refused n) free h = dead-none (p .cl k) h
-  right (Abandon k) (Answered n) free h = (openOf (p .cl k), live-some (p .cl k) (h .0), h .1)
-  right (Abandon k) (Refused n) free h = six p k n h
+  right (Abandon k) (Answered n) free h = record { entry = openOf (p .cl k); found = live-some (p .cl k) (h .0); stage = h .1; figure = same-figure (h .2) }
+  right (Abandon k) (Refused n) free h =
+      λ o e. let y = some-live (p .cl k) o e in subst (λ (z : Open). AbandonRefusal (z .stage) n) (y .1) (h (y .0))
   right Trim (Answered n) free h =
-      λ e. ap (λ (z : ℕ). Answered z) (h (λ k. none-dead (p .cl k) (e k)))
+      λ e. record { free = free; figure = refl; whole = h (λ k. none-dead (p .cl k) (e k)) }
   right Trim (Refused n) free h = tt
   right Free a free h = tt

@@ -30,9 +30,9 @@ client s b = view s .cl b
 
 pub record Grown (n : ℕ) (s : Image) : Type 0 where
   pub bounds : Bounds
-  pub last : ℕ
+  pub upcoming : ℕ
   pub table : Plain
-  pub good : Reached bounds last s table
+  pub good : Reached bounds upcoming s table
   pub lists-R : OnLists requestSide (view s .cl)
   pub lists-C : OnLists commitSide (view s .cl)
   pub named : (b : ℕ) → n ≤ b → client s b .number ≡ 0
@@ -66,7 +66,7 @@ grows {n} s c g o =
     let x = does s g c in
     record {
       bounds = g .bounds;
-      last = _;
+      upcoming = _;
       table = _;
       good = good-next (g .good) c;
       lists-R = x .lists-R (g .lists-R);

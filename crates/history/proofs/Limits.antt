@@ -81,8 +81,8 @@ call-capped n w t q (Refused m) next r h = h
 call-capped n w t (Begin k) (Answered a) next r h = open-capped (n .limit) t h k (newlyOpen t) (omega (arith, valued-none cells unwritten (λ x. refl)))
 call-capped n w t (Read k x) (Answered a) next r h = h
 call-capped n w t (Write k x v) (Answered a) next r h =
-    rw (r .1) (open-capped (n .limit) t h k _ (still-within (r .0) x v (n .limit) (r .2) (h k (r .0) (r .1))))
-call-capped n w t (Advance k) (Answered (Stage g)) next r h = rw (r .1) (stage-capped (n .limit) t h k g (r .0) (r .1))
+    rw (r .found) (open-capped (n .limit) t h k _ (still-within (r .entry) x v (n .limit) (r .allowed) (h k (r .entry) (r .found))))
+call-capped n w t (Advance k) (Answered (Stage g)) next r h = rw (r .found) (stage-capped (n .limit) t h k g (r .entry) (r .found))
 call-capped n w t (Advance k) (Answered (Waiting m)) next r h = h
 call-capped n w t (Advance k) (Answered (Conflict m)) next r h = shut-capped (n .limit) t h k
 call-capped n w t (Advance k) (Answered (Done m)) next r h = shut-capped (n .limit) t h k

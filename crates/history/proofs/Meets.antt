@@ -79,11 +79,11 @@ module _ (s : State) (u : Under-state s) where
 
   pub keeps : {c : Call} {x : Out (Answer (Observed c))} → Transition s c x → Under-state (x .state)
   unfolding begunₛ overwritten addedₛ trimmedₛ takeR takeC listR listC lookR lookC checkedₛ committed
-  keeps (no-begin a r n) = u
-  keeps (no-read a x r n) = u
-  keeps (no-write a x v r n) = u
-  keeps (no-advance a r n) = u
-  keeps (no-abandon a r n) = u
+  keeps (no-begin a r d n) = u
+  keeps (no-read a x r d n) = u
+  keeps (no-write a x v r d n) = u
+  keeps (no-advance a r d n) = u
+  keeps (no-abandon a r d n) = u
   keeps (begins a h was k) =
       moved a h _ same (tame-same a) (s .R) (s .C) (suc (s .W)) (omega (arith, early-one 1 (newcomer s) (omega arith) (omega arith)))
       (omega (arith, early-one 7 (newcomer s) (omega arith) (omega arith)))
@@ -117,7 +117,7 @@ module _ (s : State) (u : Under-state s) where
   keeps (at12 a h op e) = later a h (atStageₛ (clearC a (s .cl a)) 13) (clearC a) (tame-C a) refl (omega arith)
   keeps (at13 a h op e) = gone a h
   keeps (abandons a h op k) = gone a h
-  keeps trims = u
+  keeps (trims fits) = u
   keeps frees = u
 
   -- an open client that has yet to take a number finds one

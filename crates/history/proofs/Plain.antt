@@ -1,7 +1,7 @@
 -- The plain table as the proofs keep it, a device: its newest commit stands first in the book, and the book keeps what each commit wrote, so
 -- that the rows can be held against the book. Erase.antt maps it to the plain table of the statement (specs/Table.antt), step by step.
 -- Assumes nothing.
-use Prim.Native.Nat.{ℕ, suc, _-_, _≤_, _<_}
+use Prim.Native.Nat.{ℕ, suc, _+_, _≤_, _<_}
 use mathlib.Core.Path.{_≡_}
 use mathlib.Core.Logic.{_⊎_, ite}
 use mathlib.Core.Bool.{Bool, true, false}
@@ -12,11 +12,13 @@ use lib.ListN.{length}
 use Rattle.spec.specs.declared.Begun.{Begun}
 use Rattle.spec.specs.declared.Progress.{Progress}
 use Rattle.spec.specs.declared.Progress.the-variants.{Stage, Waiting, Conflict, Done}
-use Rattle.spec.specs.Answers.{Answer, Answered, Refused, notOpen}
+use Rattle.spec.specs.Answers.{Answer, Answered, Refused}
+use Rattle.spec.specs.Set.{clients}
+use Rattle.spec.specs.Numbers.{top}
 use Rattle.spec.specs.Rows.{cells}
 use Rattle.spec.specs.Run.{Call, Begin, Read, Write, Advance, Abandon, Trim, Free}
 use Rattle.spec.specs.Table.{Value, unwritten, override, orElse, overlay, Observed}
-use Rattle.spec.specs.Right.{Bounds, valued, ReadRefusal, WriteAllowed, WriteRefusal}
+use Rattle.spec.specs.Right.{Bounds, valued, BeginRefusal, ReadRefusal, WriteAllowed, WriteRefusal, AbandonRefusal}
 
 -- a commit: its number and what it wrote
 pub record Entry : Type 0 where
@@ -143,14 +145,10 @@ Clashₚ p a e = In e (newerₚ (p .cl a .since) (p .book)) × Sharesₚ (e .put
 abbrev pub NoClashₚ : Plain → ℕ → Type 0
 NoClashₚ p a = (e : Entry) → In e (newerₚ (p .cl a .since) (p .book)) → Sharesₚ (e .puts) (p .cl a .writes) → ⊥
 
--- a client past its check is not told that nothing is open
-abbrev pub Six : Plain → ℕ → ℕ → Type 0
-Six p a r = r ≡ notOpen → p .cl a .live ≡ true → 6 ≤ p .cl a .stage → ⊥
-
 -- w is the W before the call
 abbrev pub RightBeginₚ : ℕ → Plain → ℕ → Answer Begun → Type 0
-RightBeginₚ w p a (Answered b) = (p .cl a .live ≡ false) × (b .snapshot ≡ lastOfₚ (p .book)) × (b .number ≡ suc w)
-RightBeginₚ w p a (Refused r) = Six p a r
+RightBeginₚ w p a (Answered b) = (p .cl a .live ≡ false) × (b .snapshot ≡ lastOfₚ (p .book)) × (b .number ≡ suc w) × (w < top) × (a < clients)
+RightBeginₚ w p a (Refused r) = BeginRefusal (suc w) a (p .cl a .live) r
 
 abbrev pub RightReadₚ : Plain → ℕ → ℕ → Answer (Option Value) → Type 0
 RightReadₚ p a x (Answered v) = (p .cl a .live ≡ true) × (v ≡ orElse (p .cl a .writes x) (p .cl a .copy x)) × (p .cl a .stage ≤ 11) × (x < cells)
@@ -158,16 +156,19 @@ RightReadₚ p a x (Refused r) = p .cl a .live ≡ true → ReadRefusal x (p .cl
 
 -- free is the free figure after the call
 abbrev pub RightWriteₚ : ℕ → Plain → ℕ → ℕ → Value → Answer ℕ → ℕ → Type 0
-RightWriteₚ limit p a x v (Answered n) free = (p .cl a .live ≡ true) × WriteAllowed limit (p .cl a .stage) (p .cl a .writes) x v
+RightWriteₚ limit p a x v (Answered n) free =
+    (p .cl a .live ≡ true) × WriteAllowed limit (p .cl a .stage) (p .cl a .writes) x v × (n ≡ free)
 RightWriteₚ limit p a x v (Refused r) free = p .cl a .live ≡ true → WriteRefusal limit (p .cl a .stage) (p .cl a .writes) x v (Answered free) r
 
-abbrev pub RightAbandonₚ : Plain → ℕ → Answer ℕ → Type 0
-RightAbandonₚ p a (Answered n) = (p .cl a .live ≡ true) × (p .cl a .stage < 12)
-RightAbandonₚ p a (Refused r) = Six p a r
+abbrev pub RightAbandonₚ : Plain → ℕ → Answer ℕ → ℕ → Type 0
+RightAbandonₚ p a (Answered n) free = (p .cl a .live ≡ true) × (p .cl a .stage < 12) × (n ≡ free)
+RightAbandonₚ p a (Refused r) free = p .cl a .live ≡ true → AbandonRefusal (p .cl a .stage) r
 
 abbrev pub RightProgressₚ : Plain → ℕ → Progress → Type 0
-RightProgressₚ p a (Stage k) = (k ≡ suc (p .cl a .stage)) × (k ≡ 1 → Wroteₚ (p .cl a)) × (k ≡ 6 → NoClashₚ p a) × (k ≡ 12 → NoClashₚ p a × (lastOfₚ (p .book) < p .cl a .commit))
-RightProgressₚ p a (Waiting n) = (p .cl a .stage ≡ 4) ⊎ (p .cl a .stage ≡ 10)
+RightProgressₚ p a (Stage k) =
+    (k ≡ suc (p .cl a .stage)) × (k ≤ 13) × (k ≡ 1 → Wroteₚ (p .cl a)) × (k ≡ 6 → NoClashₚ p a)
+    × (k ≡ 12 → NoClashₚ p a × (lastOfₚ (p .book) < p .cl a .commit))
+RightProgressₚ p a (Waiting n) = ((p .cl a .stage ≡ 4) ⊎ (p .cl a .stage ≡ 10)) × (1 ≤ n)
 RightProgressₚ p a (Conflict n) = (p .cl a .stage ≡ 5) × ((e : Entry) × (e .number ≡ n) × Clashₚ p a e) × ((e : Entry) → Clashₚ p a e → n ≤ e .number)
 RightProgressₚ p a (Done n) =
     ((p .cl a .stage ≡ 13) × (n ≡ p .cl a .commit) × ((e : Entry) × In e (p .book) × (e .number ≡ n)))
@@ -178,7 +179,7 @@ RightAdvanceₚ p a (Answered g) = (p .cl a .live ≡ true) × RightProgressₚ 
 RightAdvanceₚ p a (Refused r) = p .cl a .live ≡ false
 
 abbrev pub RightTrimₚ : ℕ → Plain → Answer ℕ → ℕ → Type 0
-RightTrimₚ rows p (Answered n) free = ((a : ℕ) → p .cl a .live ≡ false) → free ≡ rows - valued cells (p .table)
+RightTrimₚ rows p (Answered n) free = ((a : ℕ) → p .cl a .live ≡ false) → free + valued cells (p .table) ≡ rows
 RightTrimₚ rows p (Refused r) free = Unit {0}
 
 abbrev pub Rightₚ : Bounds → ℕ → Plain → (q : Call) → Answer (Observed q) → ℕ → Type 0
@@ -186,6 +187,6 @@ Rightₚ b w p (Begin a) r free = RightBeginₚ w p a r
 Rightₚ b w p (Read a x) r free = RightReadₚ p a x r
 Rightₚ b w p (Write a x v) r free = RightWriteₚ (b .limit) p a x v r free
 Rightₚ b w p (Advance a) r free = RightAdvanceₚ p a r
-Rightₚ b w p (Abandon a) r free = RightAbandonₚ p a r
+Rightₚ b w p (Abandon a) r free = RightAbandonₚ p a r free
 Rightₚ b w p Trim r free = RightTrimₚ (b .rows) p r free
 Rightₚ b w p Free r free = Unit {0}

@@ -1,23 +1,26 @@
 -- Whatever a call does (Took.antt), its answer is right by the plain table, and the invariant holds afterwards; and it holds after set-up.
--- W never falls, and stays a number of 32 bits: so the numbers that Begin answers rise.
+-- W never falls, and stays a number of 32 bits: so each number that Begin answers is the next one. No call is refused with 2.
 -- Assumes nothing.
-use Prim.Native.Nat.{ℕ, _≤_}
-use mathlib.Core.Path.{_≡_, refl, sym, _∙_, subst}
-use mathlib.Core.Bool.{true, true≢false}
+use Prim.Native.Nat.{ℕ, suc, _≤_}
+use mathlib.Core.Path.{_≡_, refl, sym, ap, _∙_, subst}
+use mathlib.Core.Logic.{_≢_, by-cases}
+use mathlib.Core.Bool.{Bool, true, not, true≢false}
 use mathlib.Core.Option.{Option, none, some}
 use native.Mathlib.Decide.{ℕ-discrete}
 use native.Mathlib.Omega.{arith}
+use borrow.Author.Tests.{eq-eqb, ne-eqb}
+use lib.Dec.{eqb}
 use Rattle.spec.specs.Set.{clients}
 use Rattle.spec.specs.declared.Progress.{Progress}
-use Rattle.spec.specs.Answers.{Answer}
+use Rattle.spec.specs.Answers.{Answer, Answered, Refused, unfit}
 use Rattle.spec.specs.Numbers.{top}
 use Rattle.spec.specs.Run.{Call}
 use Rattle.spec.specs.Table.{Observed}
-use Rattle.spec.specs.Right.{Bounds, ReadRefusal, numberAfter}
-use Rattle.history.proofs.Lists.{in-nil, ite-elim, none-some, first}
+use Rattle.spec.specs.Right.{Bounds, BeginRefusal, ReadRefusal, AbandonRefusal, nextAfter}
+use Rattle.history.proofs.Lists.{in-nil, ite-elim, option-case, none-some, first}
 use Rattle.history.proofs.Tickets.{idle-queue, look, listSize}
-use Rattle.history.proofs.Model.{DRow, State, Out, rph, cph, begunₛ, overwritten, addedₛ, trimmedₛ, takeR, takeC, listR, listC, lookR, lookC, checkedₛ, committed, closedₛ, numOf, rphase, fresh}
-use Rattle.history.proofs.Plain.{Plain, Six, updateₚ, onBeginₚ, onWriteₚ, onAbandonₚ, onAdvanceₚ, onProgressₚ, emptyₚ, none-yet, lastOfₚ}
+use Rattle.history.proofs.Model.{DRow, State, Out, rph, cph, begunₛ, overwritten, addedₛ, trimmedₛ, takeR, takeC, listR, listC, lookR, lookC, checkedₛ, smallestₛ, checkKey, committed, closedₛ, numOf, rphase, fresh}
+use Rattle.history.proofs.Plain.{Plain, updateₚ, onBeginₚ, onWriteₚ, onAbandonₚ, onAdvanceₚ, onProgressₚ, emptyₚ, none-yet, lastOfₚ}
 use Rattle.history.proofs.Invariant.{Inv, valuesOf}
 use Rattle.history.proofs.Booked.{write-added, write-replaced}
 use Rattle.history.proofs.Arms.{Good, arm0, arm1, arm2, arm3, arm4, arm6, arm7, arm8, arm9, arm10, arm12, cph-in}
@@ -25,22 +28,25 @@ use Rattle.history.proofs.Deeds.{begin-good, read-good, write-refused, 
 use Rattle.history.proofs.Transition.{Transition, no-begin, no-read, no-write, no-advance, no-abandon, begins, reads, replaces, adds, at0, ends0, at1, at2, at3, at4, at5, at6, at7, at8, at9, at10, at11, at12, at13, abandons, trims, frees}
 
 module _ {bounds : Bounds} {s : State} {p : Plain} (inv : Inv bounds s p) where
-  -- the refusal 6 says that nothing is open
-  six : (a r : ℕ) → (r ≡ 6 → s .cl a .number ≡ 0) → Six p a r
-  six a r n e h _ = true≢false (sym h ∙ inv .one a .dead (n e))
-
   -- an open client by the plain table is one by the store
   pub is-open : (a : ℕ) → p .cl a .live ≡ true → 1 ≤ s .cl a .number
   is-open a l = let z : s .cl a .number ≡ 0 → ⊥ = λ e. true≢false (sym l ∙ inv .one a .dead e) in omega (arith, z)
 
+  -- and so by the test of the number
+  same-live : (a : ℕ) → not (eqb (s .cl a .number) 0) ≡ p .cl a .live
+  same-live a =
+      by-cases (ℕ-discrete (s .cl a .number) 0)
+      (λ e. ap not (eq-eqb (s .cl a .number) 0 e) ∙ sym (inv .one a .dead e))
+      (λ n. ap not (ne-eqb (s .cl a .number) 0 n) ∙ sym (inv .one a .live (omega (arith, n))))
+
   pub good : {q : Call} {o : Out (Answer (Observed q))} → Transition s q o → Good bounds s p q o
   unfolding updateₚ onBeginₚ onWriteₚ onAdvanceₚ onProgressₚ onAbandonₚ overwritten addedₛ
-  good (no-begin a r n) = (λ e. absurd (n e), inv)
-  good (no-read a x r n) = (λ l. subst (λ (g : ℕ). ReadRefusal x g r) (sym (inv .one a .on-stage)) (n (is-open a l)), inv)
-  good (no-write a x v r n) = (λ l. write-refused inv a x v r (is-open a l) (n (is-open a l)), inv)
-  good (no-advance a r n) = (inv .one a .dead n, inv)
-  good (no-abandon a r n) = (six a r n, inv)
-  good (begins a h was w) = begin-good inv a h was
+  good (no-begin a r d n) = (subst (λ (b : Bool). BeginRefusal (suc (s .W)) a b r) (same-live a) n, inv)
+  good (no-read a x r d n) = (λ l. subst (λ (g : ℕ). ReadRefusal x g r) (sym (inv .one a .on-stage)) (n (is-open a l)), inv)
+  good (no-write a x v r d n) = (λ l. write-refused inv a x v r (is-open a l) (n (is-open a l)), inv)
+  good (no-advance a r d n) = (inv .one a .dead n, inv)
+  good (no-abandon a r d n) = (λ l. subst (λ (g : ℕ). AbandonRefusal g r) (sym (inv .one a .on-stage)) (n (is-open a l)), inv)
+  good (begins a h was w) = begin-good inv a h was w
   good (reads a x hx o e) = read-good inv a x hx o e
   good (replaces a x v w o k) = write-good inv a x v w o _ (write-replaced (s .cl a .number) x v (s .dat) k)
   good (adds a x v w o n) = write-good inv a x v w o _ (write-added (s .cl a .number) x v (s .dat) n)
@@ -60,13 +66,59 @@ module _ {bounds : Bounds} {s : State} {p : Plain} (inv : Inv bounds s p) where
   good (at12 a h o e) = arm12 inv a o e
   good (at13 a h o e) = arm13 inv a o e
   good (abandons a h o k) = abandon-good inv a o k
-  good trims = trim-good inv
+  good (trims fits) = trim-good inv fits
   good frees = (tt, inv)
 
--- ---- W, and the last number w that a Begin has answered
+-- ---- no call is refused with 2
+
+-- the number that an answer refuses with, 0 if it does not
+abbrev refusalIn : {A : Type 0} → Answer A → ℕ
+refusalIn (Answered a) = 0
+refusalIn (Refused n) = n
+
+module _ {s : State} where
+  no-2 : {q : Call} {o : Out (Answer (Observed q))} → Transition s q o → refusalIn (o .answer) ≢ unfit
+  unfolding begunₛ overwritten addedₛ trimmedₛ takeR takeC listR listC lookR lookC checkedₛ committed
+  no-2 (no-begin a r d k) = d
+  no-2 (no-read a x r d k) = d
+  no-2 (no-write a x v r d k) = d
+  no-2 (no-advance a r d k) = d
+  no-2 (no-abandon a r d k) = d
+  no-2 (begins a h was k) = omega arith
+  no-2 (reads a x hx o e) = omega arith
+  no-2 (replaces a x v w o k) = omega arith
+  no-2 (adds a x v w o k) = omega arith
+  no-2 (at0 a h o e k) = omega arith
+  no-2 (ends0 a h o e k) = omega arith
+  no-2 (at1 a h o e) = omega arith
+  no-2 (at2 a h o e) = omega arith
+  no-2 (at3 a h o e) = omega arith
+  no-2 (at4 a h o e) =
+      ite-elim (λ (x : Out (Answer Progress)). refusalIn (x .answer) ≢ unfit)
+      (ℕ-discrete (listSize clients (look (rph s) (λ b. s .cl b .request) a (s .cl a .rwait))) 0) (λ _. omega arith) (λ _. omega arith)
+  no-2 (at5 a h o e) =
+      option-case (smallestₛ (checkKey (s .dat) (s .comm) (s .cl a .number) (s .cl a .snapshot)) (s .dat)) (λ q. rw q (omega arith)) (λ w q. rw q (omega arith))
+  no-2 (at6 a h o e) = omega arith
+  no-2 (at7 a h o e) = omega arith
+  no-2 (at8 a h o e) = omega arith
+  no-2 (at9 a h o e) = omega arith
+  no-2 (at10 a h o e) =
+      ite-elim (λ (x : Out (Answer Progress)). refusalIn (x .answer) ≢ unfit)
+      (ℕ-discrete (listSize clients (look (cph s) (λ b. s .cl b .commit) a (s .cl a .cwait))) 0) (λ _. omega arith) (λ _. omega arith)
+  no-2 (at11 a h o e) = omega arith
+  no-2 (at12 a h o e) = omega arith
+  no-2 (at13 a h o e) = omega arith
+  no-2 (abandons a h o k) = omega arith
+  no-2 (trims fits) = omega arith
+  no-2 frees = omega arith
+
+  pub never-2 : {q : Call} {o : Out (Answer (Observed q))} → Transition s q o → o .answer ≢ Refused unfit
+  never-2 t e = no-2 t (ap refusalIn e)
+
+-- ---- W, and the next number w to be issued
 
 pub record Numbered (w W : ℕ) : Type 0 where
-  pub issued : w ≤ W
+  pub issued : w ≡ suc W
   pub within : W ≤ top
 
 check-W : (s : State) (a w : ℕ) (o : Option (ℕ × DRow)) → Numbered w (s .W) → Numbered w (checkedₛ s a o .state .W)
@@ -75,13 +127,13 @@ check-W s a w none n = n
 check-W s a w (some x) n = n
 
 module _ {s : State} {w : ℕ} (n : Numbered w (s .W)) where
-  pub numbered : {q : Call} {o : Out (Answer (Observed q))} → Transition s q o → Numbered (numberAfter q (o .answer) w) (o .state .W)
+  pub numbered : {q : Call} {o : Out (Answer (Observed q))} → Transition s q o → Numbered (nextAfter q (o .answer) w) (o .state .W)
   unfolding begunₛ overwritten addedₛ trimmedₛ takeR takeC listR listC lookR lookC committed
-  numbered (no-begin a r k) = n
-  numbered (no-read a x r k) = n
-  numbered (no-write a x v r k) = n
-  numbered (no-advance a r k) = n
-  numbered (no-abandon a r k) = n
+  numbered (no-begin a r d k) = n
+  numbered (no-read a x r d k) = n
+  numbered (no-write a x v r d k) = n
+  numbered (no-advance a r d k) = n
+  numbered (no-abandon a r d k) = n
   numbered (begins a h was k) = record { issued = omega arith; within = omega arith }
   numbered (reads a x hx o e) = n
   numbered (replaces a x v w o k) = n
@@ -104,7 +156,7 @@ module _ {s : State} {w : ℕ} (n : Numbered w (s .W)) where
   numbered (at12 a h o e) = n
   numbered (at13 a h o e) = n
   numbered (abandons a h o k) = n
-  numbered trims = n
+  numbered (trims fits) = n
   numbered frees = n
 
 -- ---- set-up

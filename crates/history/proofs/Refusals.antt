@@ -11,7 +11,7 @@ use lib.ListN.{length}
 use lib.Dec.{leb, ltb, eqb}
 use Rattle.spec.specs.Choice.{if_then_else_}
 use Rattle.spec.specs.Set.{clients}
-use Rattle.spec.specs.Rows.{hasTag}
+use Rattle.spec.specs.Rows.{hasTag, cells}
 use Rattle.spec.specs.declared.Number.{Number}
 use Rattle.spec.specs.declared.Number.the-variants.{Some, None}
 use Rattle.spec.specs.declared.Found.{Found}
@@ -22,7 +22,6 @@ use Rattle.spec.specs.declared.Progress.{Progress}
 use Rattle.spec.specs.Image.{Image, numberOf, snapshotOf, stageOf, isOpen}
 use Rattle.spec.specs.Calls.{Outcome, replies, refuse, free, begun, begin, read, replaced, added, stored, write, abandon, trimmedTo, trim}
 use Rattle.spec.specs.Numbers.{top}
-use Rattle.spec.specs.Rows.{cells}
 use Rattle.spec.specs.Steps.{goOn, finished, enter, takeRequest, listRequests, looked, lookRequests, checked, check, takeCommit, listCommits, lookCommits, addCommit, leaveCommits, leaveRequests, steps, noStep, advance}
 use Rattle.spec.specs.Answers.{Answer, Refused}
 use Rattle.spec.specs.Bytes.{decode, After, encode, fits, onBytes, Memory}

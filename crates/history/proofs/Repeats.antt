@@ -5,7 +5,6 @@
 -- Assumes nothing.
 use Prim.Native.Nat.{ℕ, _≤_, _<_}
 use mathlib.Core.Path.{_≡_, sym, ap, _∙_, subst}
-use mathlib.Core.Logic.{⊎-elim}
 use mathlib.Core.List.{List}
 use mathlib.Core.Option.{Option, some}
 use native.Mathlib.Omega.{arith}
@@ -14,7 +13,7 @@ use Rattle.spec.specs.Rows.{cells}
 use Rattle.spec.specs.Run.{Call, Read}
 use Rattle.spec.specs.Bytes.{Memory}
 use Rattle.spec.specs.Table.{Value, Commit, Open, Table, orElse, update}
-use Rattle.spec.specs.Right.{Bounds, RightRead, RightRun}
+use Rattle.spec.specs.Right.{Bounds, ReadRefusal, for-no-cell, for-late, RightRead, RightRun}
 use Rattle.history.proofs.Lists.{same-some}
 use Rattle.history.specs.Demand.{GoesOn, Waits, Besides, Steady, Unbroken}
 use Rattle.history.proofs.Between.{put-other, HoldsIn, Lasts, two-calls}
@@ -27,7 +26,7 @@ shown x o = orElse (o .writes x) (o .copy x)
 read-holds : (k x : ℕ) (u : Option Value) (Q : Open → List Commit → Type 0) (t : Table)
     → ((o : Open) → u ≡ shown x o → o .stage ≤ 11 → x < cells → Q o (t .book)) → RightRead t k x (Answered u) → HoldsIn k Q (update (Read k x) (Answered u) t)
 unfolding update
-read-holds k x u Q t first s = (s .0, s .1, first (s .0) (s .2) (s .3) (s .4))
+read-holds k x u Q t first s = (s .entry, s .found, first (s .entry) (s .value) (s .stage) (s .cell))
 
 -- ---- two answered reads agree
 
@@ -48,7 +47,7 @@ steady-run qs n w t m r k x before between rest u v split e c f =
     let z = two-calls (Besides x) GoesOn k (Same x u) (same-lasts x u) (Read k x) (Read k x) between rest u
     (λ n w t next s. read-holds k x u (Same x u) t (λ o p _ _. p) s) before n w t m (subst (RightRun n w t m) split r) e c in
     let s : RightRead (z .0) k x (Answered v) = subst (RightRead (z .0) k x) f (z .2 .2) in
-    z .1 .2 ∙ ap (shown x) (same-some (sym (z .1 .1) ∙ s .1)) ∙ sym (s .2)
+    z .1 .2 ∙ ap (shown x) (same-some (sym (z .1 .1) ∙ s .found)) ∙ sym (s .value)
 
 -- ---- until the commit is made, the second is answered
 
@@ -68,11 +67,14 @@ early-lasts x u = record {
 }
 
 -- a right answer to a Read of such an entry
+unrefused : (x g n : ℕ) → x < cells → g ≤ 11 → ReadRefusal x g n → ⊥
+unrefused x g n c l (for-no-cell h) = omega arith
+unrefused x g n c l (for-late h k) = omega arith
+
 answered : (x k : ℕ) (u : Option Value) (t : Table) → HoldsIn k (Early x u) t → (a : Answer (Option Value)) → RightRead t k x a → a ≡ Answered u
 answered x k u t s (Answered v) r =
-    ap (λ (y : Option Value). Answered y) (r .2 ∙ ap (shown x) (same-some (sym (r .1) ∙ s .1)) ∙ sym (s .2 .same))
-answered x k u t s (Refused n) r =
-    ⊎-elim (λ z. absurd (omega (arith, z .0, s .2 .cell))) (λ z. absurd (omega (arith, z .1, s .2 .stage))) (r (s .0) (s .1))
+    ap (λ (y : Option Value). Answered y) (r .value ∙ ap (shown x) (same-some (sym (r .found) ∙ s .1)) ∙ sym (s .2 .same))
+answered x k u t s (Refused n) r = absurd (unrefused x (s .0 .stage) n (s .2 .cell) (s .2 .stage) (r (s .0) (s .1)))
 
 pub unbroken-run : (qs : List Call) (n : Bounds) (w : ℕ) (t : Table) (m : Memory) → RightRun n w t m qs → Unbroken m qs
 unbroken-run qs n w t m r k x before between rest u split e c =

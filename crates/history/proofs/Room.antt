@@ -151,11 +151,11 @@ module _ {bounds : Bounds} {s : State} {p : Plain} (inv : Inv bounds s p) (u : R
 
   pub stays : {c : Call} {x : Out (Answer (Observed c))} → Transition s c x → Room-state (x .state)
   unfolding begunₛ overwritten addedₛ trimmedₛ takeR takeC listR listC lookR lookC checkedₛ committed
-  stays (no-begin a r n) = u
-  stays (no-read a x r n) = u
-  stays (no-write a x v r n) = u
-  stays (no-advance a r n) = u
-  stays (no-abandon a r n) = u
+  stays (no-begin a r d n) = u
+  stays (no-read a x r d n) = u
+  stays (no-write a x v r d n) = u
+  stays (no-advance a r d n) = u
+  stays (no-abandon a r d n) = u
   stays (begins a h was k) = moved a _ same (tame-same a) (λ x y. absurd (omega arith))
   stays (reads a x hx op e) = u
   stays (replaces a x v w op k) = record {
@@ -190,7 +190,7 @@ module _ {bounds : Bounds} {s : State} {p : Plain} (inv : Inv bounds s p) (u : R
   stays (at12 a h op e) = moved a (atStageₛ (clearC a (s .cl a)) 13) (clearC a) (tame-C a) (λ x y z. absurd (omega arith))
   stays (at13 a h op e) = shut a
   stays (abandons a h op k) = gone a op k
-  stays trims = trimmed-room
+  stays (trims fits) = trimmed-room
   stays frees = u
 
   -- at stage 11 there is a free committed row

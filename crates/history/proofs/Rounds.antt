@@ -145,7 +145,7 @@ start n r l w h k z =
     let o = none-listed b w in
     record {
       bounds = b;
-      last = 0;
+      upcoming = suc w;
       table = own.emptyₚ;
       good = start-good r l w h k z;
       lists-R = subst (λ (s : State). OnLists requestSide (s .cl)) (sym e) (o .0);

@@ -15,7 +15,7 @@ use lib.ListN.{length, getD, length-append}
 use lib.Seq.{getD-append-seam}
 use lib.Dec.{eqb, ltb, leb}
 use Rattle.spec.specs.Choice.{if_then_else_}
-use Rattle.spec.specs.Rows.{Row, tagOf, cellOf, valueOf, commitNumber, commitTag, filter, hasTag}
+use Rattle.spec.specs.Rows.{Row, tagOf, cellOf, valueOf, commitNumber, commitTag, filter, hasTag, cells}
 use Rattle.spec.specs.declared.Number.{Number}
 use Rattle.spec.specs.declared.Number.the-variants.{Some, None}
 use Rattle.spec.specs.declared.Found.{Found}
@@ -27,7 +27,6 @@ use Rattle.spec.specs.Numbers.{lesser, above, upTo}
 use Rattle.spec.specs.Look as k
 use Rattle.spec.specs.Look.{commitOf, isOwn, versionOf, newer, versionAt, newest}
 use Rattle.spec.specs.Share.{any, wrote, cellsOf, shares, clash, conflict}
-use Rattle.spec.specs.Rows.{cells}
 use Rattle.spec.specs.Table.{Value, Values, has}
 use Rattle.spec.specs.Right.{valued}
 use Rattle.history.proofs.Counts.{valued-none, valued-same, valued-more}

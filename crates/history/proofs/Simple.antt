@@ -2,18 +2,17 @@
 -- closed with its rows gone, the free figure. Each call is its chain of tests, then one equation on the view.
 -- Assumes nothing.
 use Prim.Native.Nat.{ℕ, _+_, _≤_, _<_}
-use mathlib.Core.Path.{_≡_, refl, ap}
-use mathlib.Core.Logic.{inl, inr}
+use mathlib.Core.Path.{_≡_, refl, ap, _∙_}
 use mathlib.Core.Bool.{not}
 use mathlib.Core.List.{List, map}
 use mathlib.Core.Option.{Option}
 use native.Mathlib.Numerals.{add-one}
 use native.Mathlib.Omega.{arith}
-use borrow.Author.Tests.{ltb-true, ltb-false, leb-true, leb-false, eqb-false}
+use borrow.Author.Tests.{ltb-true, ltb-false, leb-true, leb-false, eqb-true, eqb-false}
 use lib.ListN.{getD}
 use lib.Dec.{ltb, leb, eqb}
 use Rattle.spec.specs.Set.{clients}
-use Rattle.spec.specs.Rows.{Row}
+use Rattle.spec.specs.Rows.{Row, cells}
 use Rattle.spec.specs.declared.Found.{Found}
 use Rattle.spec.specs.declared.Found.the-variants.{At, Missing}
 use Rattle.spec.specs.declared.Lookup.{Lookup}
@@ -23,16 +22,16 @@ use Rattle.spec.specs.Answers.{Answered, noClient, noCell, alreadyOpen, notOpen
 use Rattle.spec.specs.Image.{Clients, Image, isOpen, stageOf, numberOf, snapshotOf}
 use Rattle.spec.specs.Calls.{begun, begin, reading, read, removed, abandon, free}
 use Rattle.spec.specs.Numbers.{top}
-use Rattle.spec.specs.Rows.{cells}
 use Rattle.spec.specs.Run.{Begin, Read, Abandon, Free}
 use Rattle.spec.specs.Table.{Value, orElse, bytesRead}
+use Rattle.spec.specs.Right.{for-client, for-open, for-numbers, for-no-cell, for-late, for-commit}
 use Rattle.history.proofs.Wellformed.{Wellformed, Tidy}
 use Rattle.history.proofs.Model as m
 use Rattle.history.proofs.Model.{out, largest, readKey, lookup, committedAt}
 use Rattle.history.proofs.Transition.{no-begin, no-read, no-abandon, begins, reads, abandons, frees}
 use Rattle.history.proofs.View.{dataRowOf, commitRowOf, Fields, clientOf, clientsAs, view, clients-put, closed-put, none-listed, stage-at, past-number, free-at, W-at}
 use Rattle.history.proofs.Searches.{ownValue, own-view, versionIn, newest-view, removed-rows}
-use Rattle.history.proofs.Simulates.{observedOutcome, Simulates, simulates, simulates-if, shut, not-open, is-open}
+use Rattle.history.proofs.Simulates.{observedOutcome, Simulates, simulates, simulates-if, shut, same-open, not-open, is-open}
 
 -- ---- Begin
 
@@ -45,10 +44,11 @@ begun-view i k z h =
 pub begin-does : (i : Image) (k : ℕ) → Wellformed i → i .counters .issued ≤ top → Simulates i (Begin k) (begin k i)
 unfolding begin
 begin-does i k z w =
-    simulates-if i (Begin k) (leb clients k) (λ _. record { did = no-begin k noClient (omega arith) }) (λ h.
-    simulates-if i (Begin k) (isOpen i k) (λ _. record { did = no-begin k alreadyOpen (omega arith) }) (λ e.
-    simulates-if i (Begin k) (eqb (i .counters .issued) top) (λ _. record { did = no-begin k numbersUsedUp (omega arith) }) (λ n.
+    simulates-if i (Begin k) (leb clients k) (λ h. record { did = no-begin k noClient (omega arith) (for-client (leb-true clients k h)) }) (λ h.
     let l : k < clients = leb-false clients k h in
+    simulates-if i (Begin k) (isOpen i k) (λ e. record { did = no-begin k alreadyOpen (omega arith) (for-open l (same-open i k ∙ e)) }) (λ e.
+    simulates-if i (Begin k) (eqb (i .counters .issued) top)
+    (λ n. record { did = no-begin k numbersUsedUp (omega arith) (for-numbers l (same-open i k ∙ e) (omega (arith, eqb-true (i .counters .issued) top n, W-at i))) }) (λ n.
     let d : i .counters .issued ≡ top → ⊥ = eqb-false (i .counters .issued) top n in
     simulates i (Begin k) (begun k i) (begun-view i k (z .tidy) l) (begins k l (shut i k e) (omega (arith, d, W-at i))))))
 
@@ -69,19 +69,15 @@ lookup-view : (i : Image) (k x : ℕ) → bytesRead (i .dataRows) (reading (look
 unfolding lookup committedAt view clientsAs clientOf
 lookup-view i k x = found-view (numberOf i k) x (snapshotOf i k) (i .commitRows) (i .dataRows)
 
--- a refusal that is not 6
-not6 : {X : Type 0} (r : ℕ) → (r ≡ notOpen → ⊥) → r ≡ notOpen → X
-not6 r n e = absurd (n e)
-
 pub read-does : (i : Image) (k x : ℕ) → Wellformed i → Simulates i (Read k x) (read k x i)
 unfolding read
 read-does i k x z =
     simulates-if i (Read k x) (leb clients k)
-    (λ h. record { did = no-read k x noClient (λ o. absurd (omega (arith, o, past-number i (z .tidy) k (leb-true clients k h)))) }) (λ h.
-    simulates-if i (Read k x) (leb cells x) (λ g. record { did = no-read k x noCell (λ _. inl (leb-true cells x g, refl)) }) (λ g.
-    simulates-if i (Read k x) (not (isOpen i k)) (λ e. record { did = no-read k x notOpen (λ o. absurd (omega (arith, o, not-open i k e))) }) (λ o.
+    (λ h. record { did = no-read k x noClient (omega arith) (λ o. absurd (omega (arith, o, past-number i (z .tidy) k (leb-true clients k h)))) }) (λ h.
+    simulates-if i (Read k x) (leb cells x) (λ g. record { did = no-read k x noCell (omega arith) (λ _. for-no-cell (leb-true cells x g)) }) (λ g.
+    simulates-if i (Read k x) (not (isOpen i k)) (λ e. record { did = no-read k x notOpen (omega arith) (λ o. absurd (omega (arith, o, not-open i k e))) }) (λ o.
     simulates-if i (Read k x) (ltb 11 (stageOf i k))
-    (λ l. record { did = no-read k x wrongStage (λ _. inr (leb-false cells x g, omega (arith, ltb-true 11 (stageOf i k) l, stage-at i k), refl)) }) (λ l.
+    (λ l. record { did = no-read k x wrongStage (omega arith) (λ _. for-late (leb-false cells x g) (omega (arith, ltb-true 11 (stageOf i k) l, stage-at i k))) }) (λ l.
     simulates i (Read k x) _ (ap (λ (v : Option Value). out (view i) (Answered v)) (lookup-view i k x))
     (reads k x (leb-false cells x g) (is-open i k o) (omega (arith, ltb-false 11 (stageOf i k) l, stage-at i k)))))))
 
@@ -98,9 +94,11 @@ removed-view i k z h = rw (closed-put (i .clients) z k h, number-of (i .clients)
 pub abandon-does : (i : Image) (k : ℕ) → Wellformed i → Simulates i (Abandon k) (abandon k i)
 unfolding abandon
 abandon-does i k z =
-    simulates-if i (Abandon k) (leb clients k) (λ _. record { did = no-abandon k noClient (not6 noClient (λ e. omega arith)) }) (λ h.
-    simulates-if i (Abandon k) (not (isOpen i k)) (λ e. record { did = no-abandon k notOpen (λ _. not-open i k e) }) (λ o.
-    simulates-if i (Abandon k) (leb 12 (stageOf i k)) (λ _. record { did = no-abandon k wrongStage (not6 wrongStage (λ e. omega arith)) }) (λ g.
+    simulates-if i (Abandon k) (leb clients k)
+    (λ h. record { did = no-abandon k noClient (omega arith) (λ o. absurd (omega (arith, o, past-number i (z .tidy) k (leb-true clients k h)))) }) (λ h.
+    simulates-if i (Abandon k) (not (isOpen i k)) (λ e. record { did = no-abandon k notOpen (omega arith) (λ o. absurd (omega (arith, o, not-open i k e))) }) (λ o.
+    simulates-if i (Abandon k) (leb 12 (stageOf i k))
+    (λ g. record { did = no-abandon k wrongStage (omega arith) (λ _. for-commit (omega (arith, leb-true 12 (stageOf i k) g, stage-at i k))) }) (λ g.
     let l : k < clients = leb-false clients k h in
     simulates i (Abandon k) _ (rw (← removed-view i k (z .tidy) l, free-at (removed k i)))
     (abandons k l (is-open i k o) (omega (arith, leb-false 12 (stageOf i k) g, stage-at i k))))))

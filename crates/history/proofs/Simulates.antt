@@ -2,7 +2,7 @@
 -- `simulates-if`, one test at a time, and at its end `simulates` takes the model's change and the equation that the view of the outcome is that change.
 -- Assumes nothing.
 use Prim.Native.Nat.{ℕ, _≤_}
-use mathlib.Core.Path.{_≡_, refl, sym, _∙_, subst}
+use mathlib.Core.Path.{_≡_, refl, sym, ap, _∙_, subst}
 use mathlib.Core.Bool.{Bool, true, false, not}
 use native.Mathlib.Omega.{arith}
 use borrow.Author.Tests.{eqb-true, eqb-false, not-true, not-false}
@@ -36,6 +36,9 @@ simulates-if i q false f g = g refl
 module _ (i : Image) (k : ℕ) where
   pub shut : isOpen i k ≡ false → view i .cl k .number ≡ 0
   shut e = number-at i k ∙ eqb-true (numberOf i k) 0 (not-false (eqb (numberOf i k) 0) e)
+
+  pub same-open : not (eqb (view i .cl k .number) 0) ≡ isOpen i k
+  same-open = ap (λ (n : ℕ). not (eqb n 0)) (number-at i k)
 
   pub not-open : not (isOpen i k) ≡ true → view i .cl k .number ≡ 0
   not-open e = shut (not-true (isOpen i k) e)

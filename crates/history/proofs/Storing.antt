@@ -14,7 +14,7 @@ use lib.Seq.{getD-append-seam, set-append-seam, take-at, drop-at, length-take-le
 use lib.Dec.{eqb, leb}
 use Rattle.spec.specs.Choice.{if_then_else_}
 use Rattle.spec.specs.Set.{clients}
-use Rattle.spec.specs.Rows.{Row, part, number, spliced, tagOf, cellOf, valueOf, dataRow, withValue}
+use Rattle.spec.specs.Rows.{Row, part, number, spliced, tagOf, cellOf, valueOf, dataRow, withValue, cells}
 use Rattle.spec.proofs.Bytes.{part-take, take-before}
 use Rattle.spec.proofs.Rows.{Wide, tagOf-dataRow, cellOf-dataRow, valueOf-dataRow}
 use Rattle.spec.specs.declared.Found.{Found}
@@ -24,7 +24,6 @@ use Rattle.spec.specs.Share.{cellsOf}
 use Rattle.spec.specs.Answers.{Answered, noClient, noCell, notOpen, wrongStage, cellLimit, noFreeRow, wrongLength}
 use Rattle.spec.specs.Image.{Image, withRows, isOpen, stageOf, numberOf}
 use Rattle.spec.specs.Calls.{repliesFree, added, replaced, stored, write}
-use Rattle.spec.specs.Rows.{cells}
 use Rattle.spec.specs.Run.{Write}
 use Rattle.spec.specs.Table.{has}
 use Rattle.spec.specs.Right.{valued, Writable, for-cell, for-length, for-stage, for-limit, for-rows}
@@ -148,10 +147,10 @@ module _ (i : Image) (k x : ℕ) (v : List ℕ) (z : Wellformed i) (l : length v
         let n : has (writesOf (view i) k x) ≡ false = ap has new in
         let c = count-at inside in
         simulates-if i (Write k x v) (leb (i .limit) (cellsOf (numberOf i k) (i .dataRows)))
-        (λ f. record { did = no-write k x v cellLimit (λ _. for-limit may n (omega (arith, c, limit-at i, leb-true (i .limit) _ f))) }) (λ f.
+        (λ f. record { did = no-write k x v cellLimit (omega arith) (λ _. for-limit may n (omega (arith, c, limit-at i, leb-true (i .limit) _ f))) }) (λ f.
         let fewer : valued cells (writesOf (view i) k) < view i .bounds .limit = omega (arith, c, limit-at i, leb-false (i .limit) _ f) in
         simulates-if i (Write k x v) (leb (i .rows) (length (i .dataRows)))
-        (λ g. record { did = no-write k x v noFreeRow (λ _. for-rows may n fewer (ap (λ (m : ℕ). Answered m) (free-at i ∙ omega (arith, leb-true (i .rows) _ g)))) }) (λ _.
+        (λ g. record { did = no-write k x v noFreeRow (omega arith) (λ _. for-rows may n fewer (ap (λ (m : ℕ). Answered m) (free-at i ∙ omega (arith, leb-true (i .rows) _ g)))) }) (λ _.
         simulates i (Write k x v) (repliesFree more) (added-figure ∙ added-view)
         (adds k x v (record { may = may; fewer = λ _. fewer }) isopen new)))
 
@@ -160,13 +159,13 @@ pub write-does : (i : Image) (k x : ℕ) (v : List ℕ) → Wellformed i → num
 unfolding write
 write-does i k x v z b inside =
     simulates-if i (Write k x v) (leb clients k)
-    (λ h. record { did = no-write k x v noClient (λ o. absurd (omega (arith, o, past-number i (z .tidy) k (leb-true clients k h)))) }) (λ h.
-    simulates-if i (Write k x v) (leb cells x) (λ g. record { did = no-write k x v noCell (λ _. for-cell (leb-true cells x g)) }) (λ g.
+    (λ h. record { did = no-write k x v noClient (omega arith) (λ o. absurd (omega (arith, o, past-number i (z .tidy) k (leb-true clients k h)))) }) (λ h.
+    simulates-if i (Write k x v) (leb cells x) (λ g. record { did = no-write k x v noCell (omega arith) (λ _. for-cell (leb-true cells x g)) }) (λ g.
     let below : x < cells = leb-false cells x g in
     simulates-if i (Write k x v) (not (eqb (length v) 16))
-    (λ l. record { did = no-write k x v wrongLength (λ _. for-length below (eqb-false (length v) 16 (not-true (eqb (length v) 16) l))) }) (λ l.
+    (λ l. record { did = no-write k x v wrongLength (omega arith) (λ _. for-length below (eqb-false (length v) 16 (not-true (eqb (length v) 16) l))) }) (λ l.
     let bytes : length v ≡ 16 = eqb-true (length v) 16 (not-false (eqb (length v) 16) l) in
-    simulates-if i (Write k x v) (not (isOpen i k)) (λ e. record { did = no-write k x v notOpen (λ o. absurd (omega (arith, o, not-open i k e))) }) (λ o.
+    simulates-if i (Write k x v) (not (isOpen i k)) (λ e. record { did = no-write k x v notOpen (omega arith) (λ o. absurd (omega (arith, o, not-open i k e))) }) (λ o.
     simulates-if i (Write k x v) (not (eqb (stageOf i k) 0))
-    (λ f. record { did = no-write k x v wrongStage (λ _. for-stage below bytes (omega (arith, stage-at i k, eqb-false (stageOf i k) 0 (not-true (eqb (stageOf i k) 0) f)))) }) (λ f.
+    (λ f. record { did = no-write k x v wrongStage (omega arith) (λ _. for-stage below bytes (omega (arith, stage-at i k, eqb-false (stageOf i k) 0 (not-true (eqb (stageOf i k) 0) f)))) }) (λ f.
     stored-does i k x v z bytes b below (is-open i k o) (at-first i k f) inside (find (isOwn (numberOf i k) x) 0 (i .dataRows)) refl)))))

@@ -24,16 +24,16 @@ theorem d c w l h qs =
     let n : Bounds = boundsOf d l in
     record {
       right = r;
-      rising = rising-run qs n 0 (setUp d c w l .memory) r;
-      valued = valued-run qs n 0 (setUp d c w l .memory) r;
-      steady = steady-run qs n 0 blank (setUp d c w l .memory) r;
-      unbroken = unbroken-run qs n 0 blank (setUp d c w l .memory) r;
-      enquiry = enquiry-run qs n 0 blank (setUp d c w l .memory) r;
-      capped = capped-run qs n 0 (setUp d c w l .memory) r;
+      rising = rising-run qs n w (setUp d c w l .memory) r;
+      valued = valued-run qs n w (setUp d c w l .memory) r;
+      steady = steady-run qs n w blank (setUp d c w l .memory) r;
+      unbroken = unbroken-run qs n w blank (setUp d c w l .memory) r;
+      enquiry = enquiry-run qs n w blank (setUp d c w l .memory) r;
+      capped = capped-run qs n w (setUp d c w l .memory) r;
       nobodyWaits = nobody-waits d c w l h qs;
       whoeverCalls = whoever-calls d c w l h qs;
       roundsExist = rounds-exist d c w l h qs;
       listed = all-listed qs (setUp d c w l .memory);
       unfit = λ e. all-unfit d c w l e qs;
-      fit = λ e. all-fit d c w l e qs;
+      fit = λ e. all-fit d c w l h e qs;
     }

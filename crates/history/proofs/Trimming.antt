@@ -22,10 +22,11 @@ use Rattle.spec.specs.Image.{Image, withRows, numberOf, snapshotOf}
 use Rattle.spec.specs.Calls.{readers, orNumber, low, trimmedTo, trim}
 use Rattle.spec.specs.Run.{Trim}
 use Rattle.history.proofs.Lists.{drop?, on?, any?}
+use Rattle.history.proofs.Wellformed.{Wellformed}
 use Rattle.history.proofs.Model as m
 use Rattle.history.proofs.Model.{out, passed?, bare?, numOf}
 use Rattle.history.proofs.Transition.{trims}
-use Rattle.history.proofs.View.{dataRowOf, commitRowOf, view, number-at, snapshot-at, last-at, used-at}
+use Rattle.history.proofs.View.{dataRowOf, commitRowOf, view, number-at, snapshot-at, last-at, size-at, used-at}
 use Rattle.history.proofs.Searches.{says, says-and, says-eq, says-lt, says-le, says-yes, says-no, any-view, drop-view, tag-view, asNumber, commit-view}
 use Rattle.history.proofs.Simulates.{observedOutcome, Simulates, simulates}
 
@@ -127,5 +128,5 @@ module _ (i : Image) where
       let d : List Row = trimmedRows (low i) (i .dataRows) (i .commitRows) in
       rw (rows-left, entries-left d, used-at i, length-map d dataRowOf) (left-as d (trimmedCommits d (i .commitRows)) (length (i .dataRows) - length d))
 
-  pub trim-does : Simulates i Trim (trim i)
-  trim-does = simulates i Trim (trim i) trimmed-view trims
+  pub trim-does : Wellformed i → Simulates i Trim (trim i)
+  trim-does z = simulates i Trim (trim i) trimmed-view (trims (omega (arith, used-at i, size-at i, z .dataFit)))

@@ -120,6 +120,10 @@ module _ (i : Image) where
   unfolding view
   limit-at = refl
 
+  pub size-at : view i .bounds .rows ≡ i .rows
+  unfolding view
+  size-at = refl
+
   pub used-at : length (view i .dat) ≡ length (i .dataRows)
   unfolding view
   used-at = length-map (i .dataRows) dataRowOf

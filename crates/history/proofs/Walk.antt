@@ -21,7 +21,7 @@ perform-does (Read k x) i h w = read-does i k x (h .fine)
 perform-does (Write k x v) i h w = write-does i k x v (h .fine) (h .numbers k) (h .inside)
 perform-does (Advance k) i h w = advance-does i k h
 perform-does (Abandon k) i h w = abandon-does i k (h .fine)
-perform-does Trim i h w = trim-does i
+perform-does Trim i h w = trim-does i (h .fine)
 perform-does Free i h w = free-does i
 
 none-open : clientsAs (clientsOf zeros zeros zeros zeros zeros zeros zeros) ≡ (λ _. m.closedₛ)

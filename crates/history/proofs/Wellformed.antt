@@ -14,7 +14,7 @@ use lib.ListN.{length, getD, set, replicate, length-append, length-set, length-m
 use Rattle.spec.specs.Choice.{if_then_else_}
 use Rattle.spec.specs.Set.{clients, member, remove, strike}
 use Rattle.spec.proofs.Sets.{member-above, remove-le, collect-lt}
-use Rattle.spec.specs.Rows.{Row, dataRow, commitRow, withValue, filter, hasTag}
+use Rattle.spec.specs.Rows.{Row, dataRow, commitRow, withValue, filter, hasTag, cells}
 use Rattle.spec.proofs.Bytes.{length-dataRow, length-commitRow, length-spliced}
 use Rattle.spec.proofs.Rows.{Wide, wide-append, filter-wide, filter-fewer}
 use Rattle.spec.specs.declared.Number.{Number}
@@ -29,7 +29,6 @@ use Rattle.spec.specs.Answers.{Answer}
 use Rattle.spec.specs.Image.{Clients, Image, setStage, setRequest, setCommit, setRequestWaits, setCommitWaits, cleared, unlisted, opened, closed, zeros, empty, numberOf, snapshotOf, requestOf, stageOf, commitNumberOf, isOpen}
 use Rattle.spec.specs.Calls.{Outcome, free, begun, begin, read, replaced, added, stored, write, removed, abandon, low, trimmedTo, trim}
 use Rattle.spec.specs.Numbers.{top}
-use Rattle.spec.specs.Rows.{cells}
 use Rattle.spec.specs.Steps.{requestQueue, commitQueue, struck, others, goOn, finished, enter, takeRequest, listRequests, looked, lookRequests, checked, check, takeCommit, listCommits, lookCommits, addCommit, leaveCommits, leaveRequests, steps, noStep, advance}
 use Rattle.spec.specs.Run.{Call, Begin, Read, Write, Advance, Abandon, Trim, Free, perform}
 

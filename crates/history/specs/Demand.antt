@@ -125,8 +125,9 @@ Enquiry m qs =
 
 pub record Demand3 (d c : List ℕ) (w l : ℕ) (qs : List Call) : Type 0 where
   -- every answer is right by the plain table that was told the calls and answers before it: `Right` says what that is for each call, beside
-  -- document 01's sentences, from "the snapshot that Begin answers is the last of them" to the free figure "after an answered Trim"
-  pub right : RightRun (boundsOf d l) 0 blank (setUp d c w l .memory) qs
+  -- document 01's sentences, from "the snapshot that Begin answers is the last of them" to the free figure "after an answered Trim"; the first
+  -- number that a Begin answers is w: "W starts one below the first W given at set-up"
+  pub right : RightRun (boundsOf d l) w blank (setUp d c w l .memory) qs
   -- "Numbers in the book rise"
   pub rising : Rising (tableAfter qs (setUp d c w l .memory) blank .book)
   -- "the cells with a value in the table: those are the cells ever committed"
@@ -154,5 +155,5 @@ pub record Demand3 (d c : List ℕ) (w l : ℕ) (qs : List Call) : Type 0 where
   pub listed : AllListed (setUp d c w l .memory) qs
   -- "after a refused one every call gets 2"
   pub unfit : accepts (length d) (length c) w l ≡ false → AllUnfit (setUp d c w l .memory) qs
-  -- after one that is not refused the store is never unfit
+  -- after one that is not refused the store is never unfit, and no call gets 2: "A store grown from set-up meets neither"
   pub fit : accepts (length d) (length c) w l ≡ true → AllFit (setUp d c w l .memory) qs
