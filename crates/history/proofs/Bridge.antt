@@ -19,7 +19,7 @@ use Rattle.spec.specs.Bytes.{After, afterOf, decode, storeOf, encode, known, fi
 use Rattle.spec.specs.Run.{Call, perform, step}
 use Rattle.spec.proofs.Ends.{accepted}
 use Rattle.history.proofs.Spread.{spread, length-spread, rows-spread, laid-spread}
-use Rattle.history.proofs.Wellformed.{Wellformed, Kept, perform-kept}
+use Rattle.history.proofs.Wellformed.{Wellformed, Kept, perform-kept, empty-fine}
 
 -- the layout of an image
 unfoldable pub encoded : Image → Memory
@@ -96,6 +96,9 @@ module _ (d c : List ℕ) (w l : ℕ) (e : accepts (length d) (length c) w l ≡
   set-up-whole =
       let a = accepted (length d) (length c) w l e in
       rw (e, sub-zero (length d / 24), ← a .dataLength, ← a .commitLength)
+
+  pub first-fine : Wellformed (firstImage d w l)
+  first-fine = let a = accepted (length d) (length c) w l e in empty-fine (length d / 24) (limitOf l) (w - 1) (a .some) (a .most)
 
 -- what a refused set-up hands back
 abbrev pub unused : List ℕ → List ℕ → Memory

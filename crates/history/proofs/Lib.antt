@@ -1,4 +1,10 @@
 pub mod Accord
+pub mod AccordPrinted
+pub mod Unchanged
+pub mod Handed
+pub mod Printed
+pub mod Fronts
+pub mod Decimals
 pub mod Book
 pub mod Between
 pub mod Repeats

@@ -1,3 +1,5 @@
+pub mod OneCall
 pub mod Afterwards
 pub mod Rounds
 pub mod Demand
+pub mod Printed

@@ -17,11 +17,11 @@ use Rattle.spec.specs.Text.{readingText, answerText, lineText}
 use Rattle.spec.specs.Values.{valueRead, valueFor, valueFrom}
 
 -- the text with the bytes that were taken is the text of the result
-pub read-printed : (b v : List ℕ) (form : Form) (a : Answer Reading) → v ≡ valueFrom b a
+pub reading-printed : (b v : List ℕ) (form : Form) (a : Answer Reading) → v ≡ valueFrom b a
     → lineText form (answerText (readingText v) a) ≡ lineText form (answerText (λ g. readingText (valueFor b g) g) a)
 unfolding valueFrom
-read-printed b v form (Answered g) e = rw e
-read-printed b v form (Refused n) e = refl
+reading-printed b v form (Answered g) e = rw e
+reading-printed b v form (Refused n) e = refl
 
 -- a value has no more than sixteen bytes
 pub value-short : (b : List ℕ) (a : Answer Reading) → length (valueFrom b a) ≤ 16

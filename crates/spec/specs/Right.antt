@@ -219,14 +219,14 @@ RightAbandon t k (Answered f) next = AbandonAnswered t k f next
 RightAbandon t k (Refused n) next = (o : Open) → t .clients k ≡ some o → AbandonRefusal (o .stage) n
 
 -- "the free figure, as Free would answer next, is the set-up's rows less the cells with a value in the table": together they are the rows
-pub record Trimmed (rows : ℕ) (t : Table) (next : Answer ℕ) : Type 0 where
+pub record TrimmedFree (rows : ℕ) (t : Table) (next : Answer ℕ) : Type 0 where
   pub free : ℕ
   pub figure : next ≡ Answered free
   pub whole : free + valued cells (t .values) ≡ rows
 
 -- so "after an answered Trim with no client open"; a Trim is refused after a refused set-up alone, as a Free is (`AllFit`, `AllListed`)
 abbrev pub RightTrim : ℕ → Table → Answer ℕ → Answer ℕ → Type 0
-RightTrim rows t (Answered n) next = ((k : ℕ) → t .clients k ≡ none) → Trimmed rows t next
+RightTrim rows t (Answered n) next = ((k : ℕ) → t .clients k ≡ none) → TrimmedFree rows t next
 RightTrim rows t (Refused n) next = Unit {0}
 
 -- ---- every call
