@@ -62,7 +62,7 @@ module _ {bounds : Bounds} {s : State} {p : Plain} (inv : Inv bounds s p) (a : �
       (number : c .number ≡ s .cl a .number) (snapshot : c .snapshot ≡ s .cl a .snapshot) (commit : c .commit ≡ s .cl a .commit)
       (most : c .stage ≤ 13) (not8 : c .stage ≢ 8) (not12 : c .stage ≢ 12) (not6 : c .stage ≢ 6)
       (wrote : c .stage ≡ 1 → Wroteₚ (p .cl a)) where
-    pub goes : RQ (stepped s R (s .C) (putₛ a c f (s .cl))) → CQ (stepped s R (s .C) (putₛ a c f (s .cl)))
+    goes : RQ (stepped s R (s .C) (putₛ a c f (s .cl))) → CQ (stepped s R (s .C) (putₛ a c f (s .cl)))
         → Good bounds s p (Advance a) (out (stepped s R (s .C) (putₛ a c f (s .cl))) (Answered (Stage (c .stage))))
     unfolding updateₚ onAdvanceₚ onProgressₚ
     goes rq cq = (
@@ -128,7 +128,7 @@ module _ {bounds : Bounds} {s : State} {p : Plain} (inv : Inv bounds s p) (a : �
     simply : RQ (stepped s (s .R) (s .C) (putₛ a (to k) same (s .cl))) → CQ (stepped s (s .R) (s .C) (putₛ a (to k) same (s .cl))) → Good bounds s p (Advance a) (step-to s a k)
     simply rq cq = goes (to k) same (tame-same a) (s .R) e refl refl refl most n8 n12 n6 wrote rq cq
 
-  pub le : {x : ℕ} → x ≤ x
+  le : {x : ℕ} → x ≤ x
   le = omega arith
 
   -- a row of an open client below stage 12 is one of its writes

@@ -34,7 +34,7 @@ unfolding override
 put-other k a f j n = rw (ne-eqb j k n)
 
 -- client k is open, and its entry and the book l are as Q says
-abbrev pub HoldsOpen : ℕ → (Open → List Commit → Type 0) → (ℕ → Option Open) → List Commit → Type 0
+abbrev HoldsOpen : ℕ → (Open → List Commit → Type 0) → (ℕ → Option Open) → List Commit → Type 0
 HoldsOpen k Q f l = (o : Open) × (f k ≡ some o) × Q o l
 
 -- the same of a table
@@ -96,7 +96,7 @@ module _ (W : ℕ → Type 0) (P : Progress → Type 0) (k : ℕ) (Q : Open → 
   -- ---- lists of calls
 
   -- the answer a to the call q is right by a table in which Q holds
-  abbrev pub StillRight : Bounds → (q : Call) → Answer (Observed q) → Type 0
+  abbrev StillRight : Bounds → (q : Call) → Answer (Observed q) → Type 0
   StillRight n q a = (t : Table) × HoldsIn k Q t × ((w : ℕ) × (next : Answer ℕ) × Right n w t q a next)
 
   up-to : (q : Call) (qs rest : List Call) (n : Bounds) (w : ℕ) (t : Table) (m : Memory) → RightRun n w t m (qs ++ (q ∷ rest)) → Undisturbed W P k m qs

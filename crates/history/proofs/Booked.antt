@@ -118,10 +118,10 @@ pub value-tag : (t x : ℕ) (r : DRow) → r .tag ≢ t → valueAtₛ t x r ≡
 unfolding valueAtₛ
 value-tag t x r n = if-neg (ℕ-discrete (r .tag) t) n _ _
 
-pub value-cell : (t x : ℕ) (r : DRow) → r .cell ≢ x → valueAtₛ t x r ≡ none
+value-cell : (t x : ℕ) (r : DRow) → r .cell ≢ x → valueAtₛ t x r ≡ none
 value-cell t x r n = option-case (valueAtₛ t x r) (λ e. e) (λ v e. absurd (n (value-at t x r v e .1)))
 
-pub value-same : (t x : ℕ) (r : DRow) → r .tag ≡ t → r .cell ≡ x → valueAtₛ t x r ≡ some (r .value)
+value-same : (t x : ℕ) (r : DRow) → r .tag ≡ t → r .cell ≡ x → valueAtₛ t x r ≡ some (r .value)
 unfolding valueAtₛ
 value-same t x r e f = if-pos (ℕ-discrete (r .tag) t) e _ _ ∙ if-pos (ℕ-discrete (r .cell) x) f _ _
 
@@ -130,7 +130,7 @@ pub find-row : (t x : ℕ) (d : List DRow) (v : Value) → findₛ t x d ≡ som
 unfolding findₛ
 find-row t x d v e = let r = first-in (valueAtₛ t x) d v e in let q = value-at t x (r .0) v (r .2) in (r .0, r .1, q .0, q .1, q .2)
 
-pub find-none : (t x : ℕ) (d : List DRow) → findₛ t x d ≡ none → (r : DRow) → In r d → r .tag ≡ t → r .cell ≡ x → ⊥
+find-none : (t x : ℕ) (d : List DRow) → findₛ t x d ≡ none → (r : DRow) → In r d → r .tag ≡ t → r .cell ≡ x → ⊥
 unfolding findₛ
 find-none t x d e r i p q = none-some (first-none (valueAtₛ t x) d r e i) (value-same t x r p q)
 
@@ -276,16 +276,16 @@ unfolding numberAt
 number-at t c n =
     ite-elim (λ o. o ≡ some n → (c .tag ≡ t) × (c .number ≡ n)) (ℕ-discrete (c .tag) t) (λ e q. (e, Option·some-injective _ _ q)) (λ _ q. absurd (none-some refl q))
 
-pub number-same : (t : ℕ) (c : CRow) → c .tag ≡ t → numberAt t c ≡ some (c .number)
+number-same : (t : ℕ) (c : CRow) → c .tag ≡ t → numberAt t c ≡ some (c .number)
 unfolding numberAt
 number-same t c e = if-pos (ℕ-discrete (c .tag) t) e _ _
 
-pub number-tag : (t : ℕ) (c : CRow) → c .tag ≢ t → numberAt t c ≡ none
+number-tag : (t : ℕ) (c : CRow) → c .tag ≢ t → numberAt t c ≡ none
 unfolding numberAt
 number-tag t c n = if-neg (ℕ-discrete (c .tag) t) n _ _
 
 module _ (comm : List CRow) (n u : ℕ) where
-  abbrev pub comm+ : List CRow
+  abbrev comm+ : List CRow
   comm+ = comm ++ (record { number = n; tag = u } ∷ [])
 
   abbrev newC : CRow

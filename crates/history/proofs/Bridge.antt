@@ -26,7 +26,7 @@ unfoldable pub encoded : Image → Memory
 encoded i = record { store = storeOf i; dataBytes = spread 24 (i .rows) (i .dataRows); commitBytes = spread 8 (i .rows) (i .commitRows) }
 
 -- a layout and an answer
-abbrev pub with : {A : Type 0} → Memory → Answer A → After A
+abbrev with : {A : Type 0} → Memory → Answer A → After A
 with m a = afterOf (m .store) (m .dataBytes) (m .commitBytes) a
 
 -- ---- one call, of any kind that keeps images well-formed

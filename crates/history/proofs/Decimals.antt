@@ -53,7 +53,7 @@ from-small i (b ∷ s) = go (ltb (digitVal b) 10) refl
     go true e = let h : digitVal b < 10 = ltb-true (digitVal b) 10 e in digits-small (digitVal b) (i + 1) s (omega arith)
     go false e = tt
 
-pub decimal-small : (s : List ℕ) (at : ℕ) → Small (decimalAt s at)
+decimal-small : (s : List ℕ) (at : ℕ) → Small (decimalAt s at)
 unfolding decimalAt
 decimal-small s at = from-small at (drop at s)
 

@@ -44,7 +44,7 @@ pub record Line (n : ℕ) (q : Side) : Type 0 where
   -- the call that serves a client in the queue: up to its list nobody waits, and it passes where all on its list have noted larger numbers
   pub rises : (s : Image) (c : Call) → Grown n s → (b : ℕ) → serves b c (told-by c s) ≡ true → 1 ≤ phase q s b → phase q s b ≤ 3
       → (phase q s b < phase q (next s c) b) ⊎ (phase q (next s c) b ≡ 0)
-  pub passes : (s : Image) (c : Call) → Grown n s → (b : ℕ) → serves b c (told-by c s) ≡ true → phase q s b ≡ 4
+  passes : (s : Image) (c : Call) → Grown n s → (b : ℕ) → serves b c (told-by c s) ≡ true → phase q s b ≡ 4
       → ((x : ℕ) → list q s b x ≡ true → (3 ≤ phase q s x) × (ticket q s b < ticket q s x))
       → (5 ≤ phase q (next s c) b) ⊎ (phase q (next s c) b ≡ 0)
 
@@ -62,18 +62,18 @@ abbrev pub Gone : Side → ℕ → ℕ → Image → Type 0
 Gone q b m s = (m ≤ counter q s) × (HasNumber q b m s → ⊥)
 
 -- b has its list, and x, if it is on it, has come as far as phase i
-abbrev pub Follows : Side → ℕ → ℕ → ℕ → ℕ → Image → Type 0
+abbrev Follows : Side → ℕ → ℕ → ℕ → ℕ → Image → Type 0
 Follows q b m i x s = (m ≤ counter q s) × (HasNumber q b m s → (4 ≤ phase q s b) × (list q s b x ≡ true → i ≤ phase q s x))
 
 -- no smaller number is in the queue
-abbrev pub Least : Side → ℕ → Image → Type 0
+abbrev Least : Side → ℕ → Image → Type 0
 Least q m s = (m ≤ counter q s) × ((x : ℕ) → 2 ≤ phase q s x → m ≤ ticket q s x)
 
 -- how many smaller numbers are in the queue
-pub ahead? : (q : Side) (s : Image) (m b : ℕ) → Dec ((2 ≤ phase q s b) × (ticket q s b < m))
+ahead? : (q : Side) (s : Image) (m b : ℕ) → Dec ((2 ≤ phase q s b) × (ticket q s b < m))
 ahead? q s m b = Dec·and (decLe 2 (phase q s b)) (decLt (ticket q s b) m)
 
-abbrev pub ahead : ℕ → Side → Image → ℕ → ℕ
+abbrev ahead : ℕ → Side → Image → ℕ → ℕ
 ahead n q s m = sum n (λ b. one (ahead? q s m b))
 
 module _ {n : ℕ} {q : Side} (line : Line n q) where
@@ -197,7 +197,7 @@ module _ {n : ℕ} {q : Side} (line : Line n q) where
       )
 
   -- the rounds until a number is gone, with at most j smaller ones, if the way from phase 5 takes ex rounds
-  unfoldable pub cost : ℕ → ℕ → ℕ
+  unfoldable cost : ℕ → ℕ → ℕ
   cost ex zero = 4 + suc ex
   cost ex (suc j) = cost ex j + suc ex
 

@@ -45,7 +45,7 @@ abbrev pub OnLists : Side → (ℕ → Client) → Type 0
 OnLists q cl = (b x : ℕ) → 4 ≤ phaseOf q cl b → listOf q cl b x ≡ true → (1 ≤ phaseOf q cl x) × (x ≢ b)
 
 -- a client, from c to d: if it has a number that was taken before, it had it before, and is no less far
-abbrev pub Back : Side → ℕ → Client → Client → Type 0
+abbrev Back : Side → ℕ → Client → Client → Type 0
 Back q ctr c d =
     2 ≤ q .phase (d .stage) → q .number d ≤ ctr
     → (2 ≤ q .phase (c .stage)) × (q .number d ≡ q .number c) × (q .phase (c .stage) ≤ q .phase (d .stage))
@@ -67,14 +67,14 @@ module _ (q : Side) (cl : ℕ → Client) (a : ℕ) (c : Client) (f : Client →
   pub record Own (ctr : ℕ) : Type 0 where
     pub back : Back q ctr (cl a) c
     pub lists : (x : ℕ) → 4 ≤ phaseOf q cl a → 2 ≤ q .phase (c .stage) → q .list c x ≡ true → listOf q cl a x ≡ true
-    pub made : (x : ℕ) → 4 ≤ q .phase (c .stage) → q .list c x ≡ true → (4 ≤ phaseOf q cl a) ⊎ ((1 ≤ phaseOf q cl x) × (x ≢ a))
+    made : (x : ℕ) → 4 ≤ q .phase (c .stage) → q .list c x ≡ true → (4 ≤ phaseOf q cl a) ⊎ ((1 ≤ phaseOf q cl x) × (x ≢ a))
 
   -- of the others: lists only lose, and lose a if it goes back
   pub record Touch : Type 0 where
     pub stage : (d : Client) → f d .stage ≡ d .stage
     pub number : (d : Client) → q .number (f d) ≡ q .number d
-    pub fewer : (d : Client) (x : ℕ) → q .list (f d) x ≡ true → q .list d x ≡ true
-    pub clears : q .phase (c .stage) < phaseOf q cl a → (d : Client) → q .list (f d) a ≡ true → ⊥
+    fewer : (d : Client) (x : ℕ) → q .list (f d) x ≡ true → q .list d x ≡ true
+    clears : q .phase (c .stage) < phaseOf q cl a → (d : Client) → q .list (f d) a ≡ true → ⊥
 
   module _ {ctr ctr′ : ℕ} (t : Touch) (o : Own ctr) (le : ctr ≤ ctr′) where
     abbrev cl′ : ℕ → Client

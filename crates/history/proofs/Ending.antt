@@ -31,11 +31,11 @@ enough (suc (suc (suc (suc (suc k))))) = omega arith
 
 -- ---- transaction t of client b; W says that its number was issued, so that no later one has it
 
-abbrev pub Over : ℕ → ℕ → Image → Type 0
+abbrev Over : ℕ → ℕ → Image → Type 0
 Over b t s = (t ≤ view s .W) × (client s b .number ≢ t)
 
 -- if it is still open, it has come as far as stage k
-abbrev pub Past : ℕ → ℕ → ℕ → Image → Type 0
+abbrev Past : ℕ → ℕ → ℕ → Image → Type 0
 Past b t k s = (t ≤ view s .W) × (client s b .number ≡ t → k ≤ client s b .stage)
 
 -- if it is still open, it has request number m

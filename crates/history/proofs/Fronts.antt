@@ -186,7 +186,7 @@ module _ (r first limit : ℕ) (p : Memory) (g : Housed p) (e : takesEffect r fi
   unfolding takesEffect
   few = omega (arith, accepted (24 * r) (8 * r) first limit e .most)
 
-  pub accepted-here : accepts (length (take (24 * r) (p .dataBytes))) (length (take (8 * r) (p .commitBytes))) first limit ≡ true
+  accepted-here : accepts (length (take (24 * r) (p .dataBytes))) (length (take (8 * r) (p .commitBytes))) first limit ≡ true
   unfolding takesEffect
   accepted-here = given r p g few first limit ∙ e
 

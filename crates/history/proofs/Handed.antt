@@ -181,7 +181,7 @@ handed-with k x m rest =
     ∙ value-with m rest k x (step (Read k x) m .answer) (hands k x m .there)
 
 -- what demand 3 is told of a read are the bytes that `store::value` hands back for its answer
-pub read-handed : (k x : ℕ) (m : Memory) → observed (Read k x) m ≡ handed (m .dataBytes) (step (Read k x) m .answer)
+read-handed : (k x : ℕ) (m : Memory) → observed (Read k x) m ≡ handed (m .dataBytes) (step (Read k x) m .answer)
 read-handed k x m = handed-with k x m [] ∙ ap (λ (d : List ℕ). handed d (step (Read k x) m .answer)) (append-nil (m .dataBytes))
 
 from-handed : (d : List ℕ) (a : Answer Reading) → valueFrom d a ≡ bytesIn (handed d a)

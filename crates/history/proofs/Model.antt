@@ -168,7 +168,7 @@ passed? d comm l r =
     on? (λ n. any? (λ r′. Dec·and (ℕ-discrete (r′ .cell) (r .cell)) (on? (λ m. Dec·and (decLt n m) (decLe m l)) (numOf (r′ .tag) comm))) d) (numOf (r .tag) comm)
 
 -- a committed row without a data row
-abbrev pub Bare : List DRow → CRow → Type 0
+abbrev Bare : List DRow → CRow → Type 0
 Bare d c = ((r : DRow) × In r d × (r .tag ≡ c .tag)) → ⊥
 
 unfoldable pub bare? : (d : List DRow) (c : CRow) → Dec (Bare d c)

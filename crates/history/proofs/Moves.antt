@@ -135,7 +135,7 @@ pub one-off : (a : ℕ) (c : Client) (f : Client → Client) → Tame a f → (c
     → OneClient last book b (putₛ a c f cl b .number) (putₛ a c f cl b .stage) (putₛ a c f cl b .commit) (setP a q pcl b)
 one-off a c f tame cl q pcl last book b n h = rw (put-off a c f cl b n, setP-off a q pcl b n, tame .number (cl b), tame .stage (cl b), tame .commit (cl b)) h
 
-abbrev pub rewound : Plain → ℕ → (ℕ → PClient) → Plain
+abbrev rewound : Plain → ℕ → (ℕ → PClient) → Plain
 rewound p n cl = record { table = p .table; count = n; book = p .book; cl = cl }
 
 abbrev pub stepped : State → ℕ → ℕ → (ℕ → Client) → State

@@ -146,21 +146,21 @@ abbrev pub NoClashₚ : Plain → ℕ → Type 0
 NoClashₚ p a = (e : Entry) → In e (newerₚ (p .cl a .since) (p .book)) → Sharesₚ (e .puts) (p .cl a .writes) → ⊥
 
 -- w is the W before the call
-abbrev pub RightBeginₚ : ℕ → Plain → ℕ → Answer Begun → Type 0
+abbrev RightBeginₚ : ℕ → Plain → ℕ → Answer Begun → Type 0
 RightBeginₚ w p a (Answered b) = (p .cl a .live ≡ false) × (b .snapshot ≡ lastOfₚ (p .book)) × (b .number ≡ suc w) × (w < top) × (a < clients)
 RightBeginₚ w p a (Refused r) = BeginRefusal (suc w) a (p .cl a .live) r
 
-abbrev pub RightReadₚ : Plain → ℕ → ℕ → Answer (Option Value) → Type 0
+abbrev RightReadₚ : Plain → ℕ → ℕ → Answer (Option Value) → Type 0
 RightReadₚ p a x (Answered v) = (p .cl a .live ≡ true) × (v ≡ orElse (p .cl a .writes x) (p .cl a .copy x)) × (p .cl a .stage ≤ 11) × (x < cells)
 RightReadₚ p a x (Refused r) = p .cl a .live ≡ true → ReadRefusal x (p .cl a .stage) r
 
 -- free is the free figure after the call
-abbrev pub RightWriteₚ : ℕ → Plain → ℕ → ℕ → Value → Answer ℕ → ℕ → Type 0
+abbrev RightWriteₚ : ℕ → Plain → ℕ → ℕ → Value → Answer ℕ → ℕ → Type 0
 RightWriteₚ limit p a x v (Answered n) free =
     (p .cl a .live ≡ true) × WriteAllowed limit (p .cl a .stage) (p .cl a .writes) x v × (n ≡ free)
 RightWriteₚ limit p a x v (Refused r) free = p .cl a .live ≡ true → WriteRefusal limit (p .cl a .stage) (p .cl a .writes) x v (Answered free) r
 
-abbrev pub RightAbandonₚ : Plain → ℕ → Answer ℕ → ℕ → Type 0
+abbrev RightAbandonₚ : Plain → ℕ → Answer ℕ → ℕ → Type 0
 RightAbandonₚ p a (Answered n) free = (p .cl a .live ≡ true) × (p .cl a .stage < 12) × (n ≡ free)
 RightAbandonₚ p a (Refused r) free = p .cl a .live ≡ true → AbandonRefusal (p .cl a .stage) r
 
@@ -178,7 +178,7 @@ abbrev pub RightAdvanceₚ : Plain → ℕ → Answer Progress → Type 0
 RightAdvanceₚ p a (Answered g) = (p .cl a .live ≡ true) × RightProgressₚ p a g
 RightAdvanceₚ p a (Refused r) = p .cl a .live ≡ false
 
-abbrev pub RightTrimₚ : ℕ → Plain → Answer ℕ → ℕ → Type 0
+abbrev RightTrimₚ : ℕ → Plain → Answer ℕ → ℕ → Type 0
 RightTrimₚ rows p (Answered n) free = ((a : ℕ) → p .cl a .live ≡ false) → free + valued cells (p .table) ≡ rows
 RightTrimₚ rows p (Refused r) free = Unit {0}
 

@@ -29,7 +29,7 @@ use Rattle.history.proofs.Transition.{Transition, no-begin, no-read, no
 
 module _ {bounds : Bounds} {s : State} {p : Plain} (inv : Inv bounds s p) where
   -- an open client by the plain table is one by the store
-  pub is-open : (a : ℕ) → p .cl a .live ≡ true → 1 ≤ s .cl a .number
+  is-open : (a : ℕ) → p .cl a .live ≡ true → 1 ≤ s .cl a .number
   is-open a l = let z : s .cl a .number ≡ 0 → ⊥ = λ e. true≢false (sym l ∙ inv .one a .dead e) in omega (arith, z)
 
   -- and so by the test of the number

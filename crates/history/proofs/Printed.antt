@@ -83,7 +83,7 @@ module _ (input : List ℕ) (before : List (List ℕ)) (l : List ℕ) (after res
         memory-append (before ++ (l ∷ [])) after initial,
       )
 
-  pub right-text : RightText input before l after rest r first limit
+  right-text : RightText input before l after rest r first limit
   unfolding output
   right-text = record {
     text =

@@ -214,7 +214,7 @@ listed-if : {A : Type 0} (l : List ℕ) (b : Bool) (x y : After A) → Listed l 
 listed-if l true x y p q = p
 listed-if l false x y p q = q
 
-pub refused-by-number : (q : Call) (m : Memory) → Listed (refusals q) (step q m .answer)
+refused-by-number : (q : Call) (m : Memory) → Listed (refusals q) (step q m .answer)
 unfolding onBytes encode
 refused-by-number q m =
     listed-if (refusals q) (fits (m .store) (length (m .dataBytes)) (length (m .commitBytes))) _ _

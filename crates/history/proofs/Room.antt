@@ -23,7 +23,7 @@ use Rattle.spec.specs.Run.{Call}
 use Rattle.spec.specs.Table.{Value, Observed}
 use Rattle.spec.specs.Set.{clients}
 
-abbrev pub Distinct : List CRow → Type 0
+abbrev Distinct : List CRow → Type 0
 Distinct [] = Unit {0}
 Distinct (c ∷ l) = ((d : CRow) → In d l → d .tag ≢ c .tag) × Distinct l
 

@@ -48,13 +48,13 @@ says-yes d p = if-pos d p true false
 pub says-no : {P : Type 0} (d : Dec P) → (P → ⊥) → says d ≡ false
 says-no d n = if-neg d n true false
 
-pub says-true : {P : Type 0} (d : Dec P) → says d ≡ true → P
+says-true : {P : Type 0} (d : Dec P) → says d ≡ true → P
 says-true d e = by-cases d (λ p. p) (λ n. absurd (false≢true (sym (says-no d n) ∙ e)))
 
-pub says-false : {P : Type 0} (d : Dec P) → says d ≡ false → P → ⊥
+says-false : {P : Type 0} (d : Dec P) → says d ≡ false → P → ⊥
 says-false d e p = false≢true (sym e ∙ says-yes d p)
 
-pub says-iff : {P Q : Type 0} (x : Dec P) (y : Dec Q) → (P → Q) → (Q → P) → says x ≡ says y
+says-iff : {P Q : Type 0} (x : Dec P) (y : Dec Q) → (P → Q) → (Q → P) → says x ≡ says y
 says-iff x y f g = by-cases x (λ p. says-yes x p ∙ sym (says-yes y (f p))) (λ n. says-no x n ∙ sym (says-no y (λ q. n (g q))))
 
 pub says-and : {P Q : Type 0} (x : Dec P) (y : Dec Q) → says (Dec·and x y) ≡ (if says x then says y else false)
@@ -131,7 +131,7 @@ ownValue ds (At j) = some (valueOf (getD ds j []))
 ownValue ds Missing = none
 
 module _ (t x : ℕ) where
-  pub own-is : (r : Row) → isOwn t x r ≡ true → (tagOf r ≡ t) × (cellOf r ≡ x)
+  own-is : (r : Row) → isOwn t x r ≡ true → (tagOf r ≡ t) × (cellOf r ≡ x)
   unfolding isOwn
   own-is r h = by-cases (ℕ-discrete (tagOf r) t)
       (λ e. (e, eqb-true (cellOf r) x (rw (eq-eqb (tagOf r) t e) at h)))
@@ -167,7 +167,7 @@ module _ (t x : ℕ) where
   pub own-view : (ds : List Row) → findₛ t x (map dataRowOf ds) ≡ ownValue ds (k.find (isOwn t x) 0 ds)
   own-view ds = own-from [] ds
 
-  pub wrote-view : (ds : List Row) → says (some? (findₛ t x (map dataRowOf ds))) ≡ wrote ds t x
+  wrote-view : (ds : List Row) → says (some? (findₛ t x (map dataRowOf ds))) ≡ wrote ds t x
   unfolding wrote any some? findₛ first
   wrote-view [] = refl
   wrote-view (r ∷ rs) = go (isOwn t x r) refl (wrote-view rs)

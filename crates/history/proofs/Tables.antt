@@ -352,13 +352,13 @@ trimComm dat comm l = drop? (bare? (trimDat dat comm l)) comm
 module _ {dat : List DRow} {comm : List CRow} {last W : ℕ} {table : ℕ → Option Value} {book : List Entry} {v : ℕ → Reader}
     (t : Tab dat comm last W table book v) (l : ℕ) (low-last : l ≤ last) (low-snap : (a : ℕ) → 1 ≤ v a .num → l ≤ v a .snap) where
   -- A tag with a row left keeps its number, another has none.
-  pub num-kept : (u : ℕ) (r : DRow) → In r (trimDat dat comm l) → r .tag ≡ u → numOf u (trimComm dat comm l) ≡ numOf u comm
+  num-kept : (u : ℕ) (r : DRow) → In r (trimDat dat comm l) → r .tag ≡ u → numOf u (trimComm dat comm l) ≡ numOf u comm
   unfolding numOf
   num-kept u r i e =
       first-keep (numberAt u) (bare? (trimDat dat comm l)) comm
       (λ c j b. option-case (numberAt u c) (λ q. q) (λ n q. absurd (b (r, i, e ∙ sym (number-at u c n q .0)))))
 
-  pub num-sub : (u n : ℕ) → numOf u (trimComm dat comm l) ≡ some n → numOf u comm ≡ some n
+  num-sub : (u n : ℕ) → numOf u (trimComm dat comm l) ≡ some n → numOf u comm ≡ some n
   unfolding numOf
   num-sub u n e = go (any? (λ r. ℕ-discrete (r .tag) u) (trimDat dat comm l))
     where

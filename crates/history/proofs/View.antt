@@ -49,7 +49,7 @@ clientOf o = record {
   cwait = member (o .commitWaits);
 }
 
-abbrev pub at : Clients → ℕ → Fields
+abbrev at : Clients → ℕ → Fields
 at c k = record {
   stage = getD (c .stage) k 0;
   number = getD (c .number) k 0;
@@ -61,7 +61,7 @@ at c k = record {
 }
 
 -- client k's fields replaced
-abbrev pub putOne : ℕ → Fields → Clients → Clients
+abbrev putOne : ℕ → Fields → Clients → Clients
 putOne k o c =
     clientsOf (set (c .stage) k (o .stage)) (set (c .number) k (o .number)) (set (c .snapshot) k (o .snapshot)) (set (c .request) k (o .request))
     (set (c .commit) k (o .commit)) (set (c .requestWaits) k (o .requestWaits)) (set (c .commitWaits) k (o .commitWaits))
@@ -151,7 +151,7 @@ map-join {B = B} f (x ∷ xs) ys = ap (λ (l : List B). f x ∷ l) (map-join f x
 pub none-listed : member 0 ≡ (λ _. false)
 none-listed = fun-ext (λ j. member-above 0 0 j (omega arith) (omega arith))
 
-pub member-clear : (w k : ℕ) → member (remove w k) ≡ clear k (member w)
+member-clear : (w k : ℕ) → member (remove w k) ≡ clear k (member w)
 unfolding clear
 member-clear w k = fun-ext (λ j. member-remove w k j ∙ by-cases (ℕ-discrete j k)
     (λ e. rw (eq-eqb j k e) (sym (if-pos (ℕ-discrete j k) e false (member w j))))

@@ -50,13 +50,13 @@ array-set : {P : ℕ → Type 0} {l : List ℕ} → Array P l → (k v : ℕ) �
 array-set {P} {l} a k v h = record { size = length-set l k v ∙ a .size; each = each-set P l k v h (a .each) }
 
 -- a number of any size, a known stage, a set of clients
-abbrev pub Any : ℕ → Type 0
+abbrev Any : ℕ → Type 0
 Any n = Unit {0}
 
-abbrev pub Known : ℕ → Type 0
+abbrev Known : ℕ → Type 0
 Known g = g ≤ 13
 
-abbrev pub Few : ℕ → Type 0
+abbrev Few : ℕ → Type 0
 Few w = w < 2 ^ clients
 
 remove-zero : (k : ℕ) → remove 0 k ≡ 0

@@ -102,11 +102,11 @@ module _ (m : ℕ) (c : List ℕ) where
   abbrev Rest : ℕ → Bool
   Rest i = orderlyCommits (rowsFrom 8 m i c)
 
-  pub order-step : (i : ℕ) → i < m → Rest i ≡ (if Low i then (if Again i then false else Rest (i + 1)) else false)
+  order-step : (i : ℕ) → i < m → Rest i ≡ (if Low i then (if Again i then false else Rest (i + 1)) else false)
   unfolding orderlyCommits
   order-step i h = rw (rows-step 8 m i c h)
 
-  pub from-on : orderlyCommits (rowsIn 8 m c) ≡ true → (i : ℕ) → i ≤ m → Rest i ≡ true
+  from-on : orderlyCommits (rowsIn 8 m c) ≡ true → (i : ℕ) → i ≤ m → Rest i ≡ true
   from-on e zero h = rw (← rows-start 8 m c) e
   from-on e (suc i) h =
       let z : suc i ≡ i + 1 = omega arith in
@@ -216,7 +216,7 @@ module _ (n : ℕ) (s : List ℕ) where
   unfolding orderlyRows
   plain-step i h = rw (rows-step 24 n i s h)
 
-  pub plain-on : orderlyRows (rowsIn 24 n s) ≡ true → (i : ℕ) → i ≤ n → Left i ≡ true
+  plain-on : orderlyRows (rowsIn 24 n s) ≡ true → (i : ℕ) → i ≤ n → Left i ≡ true
   plain-on e zero h = rw (← rows-start 24 n s) e
   plain-on e (suc i) h =
       let z : suc i ≡ i + 1 = omega arith in

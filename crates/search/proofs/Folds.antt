@@ -41,7 +41,7 @@ pub own-other-tag : (tag cell : ℕ) (r : Row) → (tagOf r ≡ tag → ⊥) →
 unfolding isOwn
 own-other-tag tag cell r n = rw (ne-eqb _ _ n)
 
-pub own-tag : (tag cell : ℕ) (r : Row) → tagOf r ≡ tag → isOwn tag cell r ≡ eqb (cellOf r) cell
+own-tag : (tag cell : ℕ) (r : Row) → tagOf r ≡ tag → isOwn tag cell r ≡ eqb (cellOf r) cell
 unfolding isOwn
 own-tag tag cell r e = rw (eq-eqb _ _ e)
 

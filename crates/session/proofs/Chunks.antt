@@ -95,7 +95,7 @@ lines-first (b ∷ t) i e h l =
     rw z (lines-past b t q ∙ ap (push b) (lines-first t (i + 1) e g k)))
     (either (eqb b 10))
 
-pub lines-at : (s : List ℕ) (from e : ℕ) → e ≡ newlineFrom from (drop from s) → from ≤ e → e < length s
+lines-at : (s : List ℕ) (from e : ℕ) → e ≡ newlineFrom from (drop from s) → from ≤ e → e < length s
     → linesOf (drop from s) ≡ take (e - from) (drop from s) ∷ linesOf (drop (e + 1) s)
 lines-at s from e h m l =
     let k : e < from + length (drop from s) = simp length-drop (omega arith) in

@@ -25,11 +25,11 @@ use Rattle.spec.specs.Session.{front, behind, resultText, said, setUpSaid, setU
 use Rattle.text.specs.Inner.{Put}
 use Rattle.session.specs.Inner.{Front, Spoken, keptOf}
 
-pub front-take : (n r : ℕ) (b : List ℕ) → Front n (length b) r → take r b ≡ take n b
+front-take : (n r : ℕ) (b : List ℕ) → Front n (length b) r → take r b ≡ take n b
 front-take n r b f =
     ⊎-elim (λ e. ap (λ (m : ℕ). take m b) e) (λ e. ap (λ (m : ℕ). take m b) (e .0) ∙ take-length b ∙ sym (take-all n b (e .1))) f
 
-pub front-drop : (n r : ℕ) (b : List ℕ) → Front n (length b) r → drop r b ≡ drop n b
+front-drop : (n r : ℕ) (b : List ℕ) → Front n (length b) r → drop r b ≡ drop n b
 front-drop n r b f =
     ⊎-elim (λ e. ap (λ (m : ℕ). drop m b) e) (λ e. ap (λ (m : ℕ). drop m b) (e .0) ∙ drop-length b ∙ sym (drop-of-length-le b (e .1))) f
 

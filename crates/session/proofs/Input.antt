@@ -35,7 +35,7 @@ module _ (b : ℕ) (s : List ℕ) where
   unfolding lines
   line-past e = rw e
 
-pub lines-append : (s t : List ℕ) → lines (s ++ t) ≡ linesOf s ++ lines (restOf s ++ t)
+lines-append : (s t : List ℕ) → lines (s ++ t) ≡ linesOf s ++ lines (restOf s ++ t)
 lines-append [] t = rw (lines-nil, rest-nil)
 lines-append (b ∷ s) t =
     ⊎-elim

@@ -3,17 +3,17 @@
 use Prim.Native.Nat.{ℕ, suc, _+_, _*_, _-_, _≤_, _<_}
 use mathlib.Core.Path.{_≡_, refl, _∙_}
 use mathlib.Core.List.{List, [], _∷_, _++_, append-assoc, append-nil, flatten}
-use native.Mathlib.Nat.{add-zero, mul-zero, mul-suc, mul-add, mul-sub, mul-le-mul-left}
+use native.Mathlib.Nat.{add-zero, mul-zero, mul-suc, mul-sub}
 use native.Mathlib.Omega.{arith}
-use lib.ListN.{length, take, drop, getD, set, replicate, length-append, length-drop, length-replicate}
+use lib.ListN.{length, take, drop, getD, set, replicate, length-append}
 use Rattle.spec.specs.Rows.{Row, spliced, rowsIn, layout}
 use Rattle.spec.proofs.Bytes.{drop-later, drop-spliced}
-use Rattle.spec.proofs.Rows.{length-rows, row-inside, Wide, rows-flat, flat-rows, length-flat, flat-append, flat-front, rows-at, rows-replaced}
+use Rattle.spec.proofs.Rows.{length-rows, row-inside, Wide, rows-flat, flat-rows, flat-append, flat-front, rows-at, rows-replaced}
 
 -- ---- what a call does to a buffer, by what the code does to it
 
 -- the rows of a buffer b′ that has the same bytes behind them
-pub laid-kept : (w n : ℕ) (b b′ : List ℕ) → drop (w * n) b′ ≡ drop (w * n) b → layout w n (rowsIn w n b′) b ≡ b′
+laid-kept : (w n : ℕ) (b b′ : List ℕ) → drop (w * n) b′ ≡ drop (w * n) b → layout w n (rowsIn w n b′) b ≡ b′
 unfolding layout
 laid-kept w n b b′ e =
     let z : n - n ≡ 0 = omega arith in
@@ -54,11 +54,3 @@ laid-set w n i at v b h g l =
 pub rows-laid : (w n : ℕ) (rs : List Row) (b : List ℕ) → Wide w rs → rowsIn w (length rs) (layout w n rs b) ≡ rs
 unfolding layout
 rows-laid w n rs b h = rw append-assoc (rows-flat w rs (replicate (w * (n - length rs)) 0 ++ drop (w * (length rs + (n - length rs))) b) h)
-
-pub length-laid : (w n m : ℕ) (rs : List Row) (b : List ℕ) → Wide w rs → length rs ≤ m → n ≤ m → length b ≡ w * m → length (layout w n rs b) ≡ length b
-unfolding layout
-length-laid w n m rs b h g k l =
-    let x : ℕ = length rs + (n - length rs) in
-    let low : w * x ≤ w * m = mul-le-mul-left w (omega arith) in
-    let e : w * x ≡ w * length rs + w * (n - length rs) = mul-add w (length rs) (n - length rs) in
-    simp (length-append, length-replicate, length-drop, length-flat w rs h) (omega arith)

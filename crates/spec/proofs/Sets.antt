@@ -2,7 +2,7 @@
 use mathlib.Core.Bool.{Bool, true, false, not, _&&_}
 use mathlib.Core.Path.{_≡_, refl, sym, ap, _∙_}
 use Prim.Native.Nat.{ℕ, zero, suc, _+_, _-_, _*_, _/_, _%_, _^_, _≤_, _<_}
-use native.Mathlib.Nat.{one-mul, lt-of-not-le, pow-suc, mod-lt, mod-eq-of-lt, le-of-suc-le-suc}
+use native.Mathlib.Nat.{one-mul, pow-suc, mod-lt, mod-eq-of-lt, le-of-suc-le-suc}
 use native.Mathlib.Numerals.{one-add}
 use native.Mathlib.Omega.{arith}
 use lib.Dec.{eqb, ltb, eqb·suc-suc}
@@ -26,14 +26,14 @@ unfolding bit
 bit-lt s k = omega arith
 
 -- a digit past a number's length is 0
-pub bit-above : (w s k : ℕ) → s < 2 ^ w → w ≤ k → bit s k ≡ 0
+bit-above : (w s k : ℕ) → s < 2 ^ w → w ≤ k → bit s k ≡ 0
 bit-above zero s zero h l = omega (arith, bit-zero s)
 bit-above zero s (suc k) h l = rw bit-suc (bit-above zero (s / 2) k (omega arith) (omega arith))
 bit-above (suc w) s zero h l = omega arith
 bit-above (suc w) s (suc k) h l = rw bit-suc (bit-above w (s / 2) k (omega (arith, pow-suc 2 w)) (le-of-suc-le-suc l))
 
 -- a number with digit k set is at least 2 ^ k
-pub bit-le : (s k : ℕ) → bit s k ≡ 1 → 2 ^ k ≤ s
+bit-le : (s k : ℕ) → bit s k ≡ 1 → 2 ^ k ≤ s
 bit-le s zero h = omega (arith, bit-zero s)
 bit-le s (suc k) h = omega (arith, pow-suc 2 k, bit-le (s / 2) k (sym (bit-suc s k) ∙ h))
 
@@ -45,7 +45,7 @@ add-lt (suc w) s (suc k) h l e =
     omega (arith, pow-suc 2 w, pow-suc 2 k, add-lt w (s / 2) k (omega (arith, pow-suc 2 w)) (le-of-suc-le-suc l) (sym (bit-suc s k) ∙ e))
 
 -- the digits after 2 ^ k is added, and after it is taken away
-pub add-bit : (s k : ℕ) → bit s k ≡ 0 → (j : ℕ) → bit (s + 2 ^ k) j ≡ (if eqb j k then 1 else (bit s j))
+add-bit : (s k : ℕ) → bit s k ≡ 0 → (j : ℕ) → bit (s + 2 ^ k) j ≡ (if eqb j k then 1 else (bit s j))
 add-bit s zero e zero = omega (arith, bit-zero s, bit-zero (s + 1))
 add-bit s zero e (suc j) =
     let h : (s + 1) / 2 ≡ s / 2 = omega (arith, bit-zero s) in
@@ -55,7 +55,7 @@ add-bit s (suc k) e (suc j) =
     let h : (s + 2 ^ suc k) / 2 ≡ s / 2 + 2 ^ k = omega (arith, pow-suc 2 k) in
     rw (bit-suc (s + 2 ^ suc k) j, bit-suc s j, h, eqb·suc-suc j k) (add-bit (s / 2) k (sym (bit-suc s k) ∙ e) j)
 
-pub sub-bit : (s k : ℕ) → bit s k ≡ 1 → (j : ℕ) → bit (s - 2 ^ k) j ≡ (if eqb j k then 0 else (bit s j))
+sub-bit : (s k : ℕ) → bit s k ≡ 1 → (j : ℕ) → bit (s - 2 ^ k) j ≡ (if eqb j k then 0 else (bit s j))
 sub-bit s zero e zero = omega (arith, bit-zero s, bit-zero (s - 1))
 sub-bit s zero e (suc j) =
     let h : (s - 1) / 2 ≡ s / 2 = omega (arith, bit-zero s) in
@@ -81,7 +81,7 @@ size-ones (suc w) s =
     rw (split, ones-cat w (s / 2 ^ w % 2) (s % 2 ^ w) (mod-lt s (pow-pos w)), ones-digit (s / 2 ^ w % 2) (bit-lt s w), size-ones w s) (omega arith)
 
 -- what a test of membership says of the digit
-pub member-true : (s k : ℕ) → member s k ≡ true → bit s k ≡ 1
+member-true : (s k : ℕ) → member s k ≡ true → bit s k ≡ 1
 unfolding member
 member-true s k e = eqb-true (bit s k) 1 e
 
@@ -97,10 +97,6 @@ unfolding member
 member-above w s k h l = rw (bit-above w s k h l)
 
 -- a member is below the width
-pub member-below : (w s k : ℕ) → s < 2 ^ w → member s k ≡ true → k < w
-member-below w s k h e =
-    lt-of-not-le (λ (l : w ≤ k). let z : _≡_ {A = ℕ} 0 1 = cc (bit-above w s k h l, member-true s k e) in omega arith)
-
 -- a test on a chosen digit is the choice of the tests
 choice-eqb : (b : Bool) (x y : ℕ) → eqb (if b then x else y) 1 ≡ (if b then (eqb x 1) else (eqb y 1))
 choice-eqb true x y = refl
@@ -137,7 +133,7 @@ remove-le s k = go (member s k)
     go false = omega arith
 
 -- numbers of one width with the same digits are equal, and so are sets with the same members
-pub same-digits : (w s t : ℕ) → s < 2 ^ w → t < 2 ^ w → ((j : ℕ) → bit s j ≡ bit t j) → s ≡ t
+same-digits : (w s t : ℕ) → s < 2 ^ w → t < 2 ^ w → ((j : ℕ) → bit s j ≡ bit t j) → s ≡ t
 same-digits zero s t h g e = omega arith
 same-digits (suc w) s t h g e =
     let half : s / 2 ≡ t / 2 =
@@ -155,7 +151,7 @@ pub same-members : (w s t : ℕ) → s < 2 ^ w → t < 2 ^ w → ((j : ℕ) → 
 same-members w s t h g e = same-digits w s t h g (λ j. digit s j ∙ rw (e j) (sym (digit t j)))
 
 -- a set of clients below a width is below its power
-pub insert-lt : (w s k : ℕ) → s < 2 ^ w → insert w s k < 2 ^ w
+insert-lt : (w s k : ℕ) → s < 2 ^ w → insert w s k < 2 ^ w
 unfolding insert
 insert-lt w s k h = go (ltb k w) (member s k) refl refl
   where

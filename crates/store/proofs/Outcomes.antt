@@ -34,7 +34,7 @@ module _ (s : Store) (d c : List ℕ) where
   removed-figure k s′ d′ r = ap (λ (x : Store). x .rows - x .used) (r .store c)
 
   -- no more rows are left than there were
-  pub removed-fewer : (k : ℕ) → length (removed k (decode s d c) .dataRows) ≤ s .used
+  removed-fewer : (k : ℕ) → length (removed k (decode s d c) .dataRows) ≤ s .used
   unfolding removed decode
   removed-fewer k =
       let p : Row → Bool = λ r. not (hasTag (getD (s .number) k 0) r) in
