@@ -44,7 +44,7 @@ pub record Line (n : ℕ) (q : Side) : Type 0 where
   -- the call that serves a client in the queue: up to its list nobody waits, and it passes where all on its list have noted larger numbers
   pub rises : (s : Image) (c : Call) → Grown n s → (b : ℕ) → serves b c (told-by c s) ≡ true → 1 ≤ phase q s b → phase q s b ≤ 3
       → (phase q s b < phase q (next s c) b) ⊎ (phase q (next s c) b ≡ 0)
-  passes : (s : Image) (c : Call) → Grown n s → (b : ℕ) → serves b c (told-by c s) ≡ true → phase q s b ≡ 4
+  pub passes : (s : Image) (c : Call) → Grown n s → (b : ℕ) → serves b c (told-by c s) ≡ true → phase q s b ≡ 4
       → ((x : ℕ) → list q s b x ≡ true → (3 ≤ phase q s x) × (ticket q s b < ticket q s x))
       → (5 ≤ phase q (next s c) b) ⊎ (phase q (next s c) b ≡ 0)
 
@@ -73,7 +73,7 @@ Least q m s = (m ≤ counter q s) × ((x : ℕ) → 2 ≤ phase q s x → m ≤ 
 ahead? : (q : Side) (s : Image) (m b : ℕ) → Dec ((2 ≤ phase q s b) × (ticket q s b < m))
 ahead? q s m b = Dec·and (decLe 2 (phase q s b)) (decLt (ticket q s b) m)
 
-abbrev ahead : ℕ → Side → Image → ℕ → ℕ
+abbrev pub ahead? : ℕ → Side → Image → ℕ → ℕ
 ahead n q s m = sum n (λ b. one (ahead? q s m b))
 
 module _ {n : ℕ} {q : Side} (line : Line n q) where
@@ -197,7 +197,7 @@ module _ {n : ℕ} {q : Side} (line : Line n q) where
       )
 
   -- the rounds until a number is gone, with at most j smaller ones, if the way from phase 5 takes ex rounds
-  unfoldable cost : ℕ → ℕ → ℕ
+  unfoldable pub cost : ℕ → ℕ → ℕ
   cost ex zero = 4 + suc ex
   cost ex (suc j) = cost ex j + suc ex
 

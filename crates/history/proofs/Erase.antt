@@ -30,18 +30,18 @@ use Rattle.history.proofs.Plain.{Entry, PClient, Plain, none-yet, resta
 
 -- ---- the map
 
-unfoldable commitEntry : Entry → Commit
+unfoldable pub commitEntry : Entry → Commit
 commitEntry e = record { number = e .number; wrote = λ x. has (e .puts x) }
 
 -- the book with its oldest commit first
-unfoldable aged : List Entry → List Commit
+unfoldable pub aged : List Entry → List Commit
 aged [] = []
 aged (e ∷ l) = aged l ++ (commitEntry e ∷ [])
 
 abbrev pub openOf : PClient → Open
 openOf q = record { copy = q .copy; since = q .since; writes = q .writes; stage = q .stage; commit = q .commit }
 
-unfoldable openClient : PClient → Option Open
+unfoldable pub openClient : PClient → Option Open
 openClient q = if q .live then some (openOf q) else none
 
 unfoldable pub erase : Plain → Table

@@ -35,7 +35,7 @@ module _ {A : Type 0} where
   pub in-nil : {a : A} → In a [] → ⊥
   in-nil h = elim h [ ]
 
-  in-cons : {a b : A} {l : List A} → In a (b ∷ l) → (a ≡ b) ⊎ In a l
+  pub in-cons : {a b : A} {l : List A} → In a (b ∷ l) → (a ≡ b) ⊎ In a l
   in-cons (here e) = inl e
   in-cons (there i) = inr i
 
@@ -177,9 +177,9 @@ module _ {A : Type 0} (R : ℕ → ℕ → Type 0) (worse? : (n m : ℕ) → Dec
       go n (some w) e = ite-elim (λ x. x ≡ none → ⊥) {a = some w} {b = some (n, b)} (worse? n (w .0)) (λ _ q. none-some q refl) (λ _ q. none-some q refl) e
 
   pub record Best (k : A → Option ℕ) (l : List A) (n : ℕ) (a : A) : Type 0 where
-    within : In a l
-    key : k a ≡ some n
-    top : (b : A) (m : ℕ) → In b l → k b ≡ some m → R n m → ⊥
+    pub within : In a l
+    pub key : k a ≡ some n
+    pub top : (b : A) (m : ℕ) → In b l → k b ≡ some m → R n m → ⊥
 
   module _ (trans : (n m j : ℕ) → (R n m → ⊥) → (R m j → ⊥) → R n j → ⊥) (asym : (n m : ℕ) → R n m → R m n → ⊥) where
     pub best-some : (k : A → Option ℕ) (l : List A) (w : ℕ × A) → best k l ≡ some w → Best k l (w .0) (w .1)

@@ -21,7 +21,7 @@ use Rattle.spec.specs.Table.{Observed}
 use Rattle.spec.specs.Set.{clients}
 
 -- 1 for an open client at a stage up to t
-early : ℕ → Client → ℕ
+pub early : ℕ → Client → ℕ
 early t c = ite (decLe 1 (c .number)) (ite (decLe (c .stage) t) 1 0) 0
 
 early-one : (t : ℕ) (c : Client) → 1 ≤ c .number → c .stage ≤ t → early t c ≡ 1

@@ -152,11 +152,11 @@ exclusive {ph} {num} q a b n ha hb r r′ = go (decLt (num a) (num b))
 -- One step of client c: what it leaves to the others.
 pub record Others (c : ℕ) (ph num : ℕ → ℕ) (list : ℕ → ℕ → Bool) (ctr : ℕ) (Rel : ℕ → ℕ → Type 0)
     (ph′ num′ : ℕ → ℕ) (list′ : ℕ → ℕ → Bool) (ctr′ : ℕ) (Rel′ : ℕ → ℕ → Type 0) : Type 0 where
-  phase : (b : ℕ) → b ≢ c → ph′ b ≡ ph b
-  number : (b : ℕ) → b ≢ c → num′ b ≡ num b
-  kept : (a b : ℕ) → b ≢ c → a ≢ c → list′ b a ≡ list b a
-  counter : ctr ≤ ctr′
-  concerns : (a b : ℕ) → 2 ≤ ph′ a → 2 ≤ ph′ b → Rel′ a b → Rel a b
+  pub phase : (b : ℕ) → b ≢ c → ph′ b ≡ ph b
+  pub number : (b : ℕ) → b ≢ c → num′ b ≡ num b
+  pub kept : (a b : ℕ) → b ≢ c → a ≢ c → list′ b a ≡ list b a
+  pub counter : ctr ≤ ctr′
+  pub concerns : (a b : ℕ) → 2 ≤ ph′ a → 2 ≤ ph′ b → Rel′ a b → Rel a b
 
 module _ (c : ℕ) {ph num : ℕ → ℕ} {list : ℕ → ℕ → Bool} {ctr : ℕ} {Rel : ℕ → ℕ → Type 0}
     {ph′ num′ : ℕ → ℕ} {list′ : ℕ → ℕ → Bool} {ctr′ : ℕ} {Rel′ : ℕ → ℕ → Type 0}
