@@ -62,18 +62,18 @@ abbrev pub Gone : Side → ℕ → ℕ → Image → Type 0
 Gone q b m s = (m ≤ counter q s) × (HasNumber q b m s → ⊥)
 
 -- b has its list, and x, if it is on it, has come as far as phase i
-abbrev Follows : Side → ℕ → ℕ → ℕ → ℕ → Image → Type 0
+abbrev pub Follows : Side → ℕ → ℕ → ℕ → ℕ → Image → Type 0
 Follows q b m i x s = (m ≤ counter q s) × (HasNumber q b m s → (4 ≤ phase q s b) × (list q s b x ≡ true → i ≤ phase q s x))
 
 -- no smaller number is in the queue
-abbrev Least : Side → ℕ → Image → Type 0
+abbrev pub Least : Side → ℕ → Image → Type 0
 Least q m s = (m ≤ counter q s) × ((x : ℕ) → 2 ≤ phase q s x → m ≤ ticket q s x)
 
 -- how many smaller numbers are in the queue
-ahead? : (q : Side) (s : Image) (m b : ℕ) → Dec ((2 ≤ phase q s b) × (ticket q s b < m))
+pub ahead? : (q : Side) (s : Image) (m b : ℕ) → Dec ((2 ≤ phase q s b) × (ticket q s b < m))
 ahead? q s m b = Dec·and (decLe 2 (phase q s b)) (decLt (ticket q s b) m)
 
-abbrev pub ahead? : ℕ → Side → Image → ℕ → ℕ
+abbrev pub ahead : ℕ → Side → Image → ℕ → ℕ
 ahead n q s m = sum n (λ b. one (ahead? q s m b))
 
 module _ {n : ℕ} {q : Side} (line : Line n q) where
