@@ -29,6 +29,7 @@ pub mod Simulates
 pub mod Booked
 pub mod Erase
 pub mod Invariant
+pub mod Listing
 pub mod Listings
 pub mod Lists
 pub mod Lookups

@@ -16,6 +16,7 @@ use Rattle.history.proofs.Book.{rising-run, valued-run}
 use Rattle.history.proofs.Repeats.{steady-run, unbroken-run}
 use Rattle.history.proofs.Enquiries.{enquiry-run}
 use Rattle.history.proofs.Limits.{capped-run}
+use Rattle.history.proofs.Listing.{lists-name-transactions}
 use Rattle.history.proofs.Rounds.{nobody-waits, whoever-calls, rounds-exist}
 
 pub theorem : (d c : List ℕ) (w l : ℕ) → w ≤ 4294967295 → (qs : List Call) → Demand3 d c w l qs
@@ -33,6 +34,7 @@ theorem d c w l h qs =
       nobodyWaits = nobody-waits d c w l h qs;
       whoeverCalls = whoever-calls d c w l h qs;
       roundsExist = rounds-exist d c w l h qs;
+      lists = lists-name-transactions d c w l h qs;
       listed = all-listed qs (setUp d c w l .memory);
       unfit = λ e. all-unfit d c w l e qs;
       fit = λ e. all-fit d c w l h e qs;

@@ -18,6 +18,7 @@ use Rattle.spec.specs.Run.{Call, Begin, Read, Write, Advance, Abandon, Trim, Fr
 use Rattle.spec.specs.Table.{Value, Values, has, Commit, Open, Table, blank, Observed}
 use Rattle.spec.specs.Right.{boundsOf, valued, observed, RightRun, AllListed, AllUnfit, AllFit}
 use Rattle.history.specs.Afterwards.{afterRun, tableAfter}
+use Rattle.history.specs.Listing.{ListsNameTransactions}
 use Rattle.history.specs.Rounds.{NobodyWaits, WhoeverCalls, RoundsExist}
 
 -- ---- the book
@@ -151,6 +152,8 @@ pub record Demand3 (d c : List ℕ) (w l : ℕ) (qs : List Call) : Type 0 where
   pub whoeverCalls : WhoeverCalls (setUp d c w l .memory) qs
   -- and there are rounds, after every list of calls
   pub roundsExist : RoundsExist (setUp d c w l .memory) qs
+  -- "Lists name transactions, not clients": who is on a list is in the queue, with the transaction that was listed
+  pub lists : ListsNameTransactions (setUp d c w l .memory) qs
   -- "Refusal by operation": a refused call gets one of the numbers listed for it; 11 is in no list: it "never occurs any more" (document 02, 2)
   pub listed : AllListed (setUp d c w l .memory) qs
   -- "after a refused one every call gets 2"

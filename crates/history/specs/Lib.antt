@@ -1,5 +1,6 @@
 pub mod OneCall
 pub mod Afterwards
+pub mod Listing
 pub mod Rounds
 pub mod Demand
 pub mod Printed
