@@ -13,9 +13,9 @@ use Rattle.spec.specs.Image.{empty}
 use Rattle.spec.specs.Bytes.{storeOf, accepts, setUp, Memory}
 use Rattle.spec.specs.Right.{AllUnfit}
 use Rattle.spec.specs.Text.{formOf}
-use Rattle.spec.specs.Session.{initial, front, response, answerTo, answers, lines, output}
+use Rattle.spec.specs.Session.{initial, front, response, answerTo, answers, lines, output, memoryAfter}
 use Rattle.history.specs.Demand.{Demand3}
-use Rattle.history.specs.Printed.{asked, askedBy, callsIn, printed, takesEffect, isSetUp, NoSetUp, memoryAfter, Cut, dataAt, commitAt, setUpAt, RightText, UnfitText, LastSetUp}
+use Rattle.history.specs.Printed.{asked, askedBy, callsIn, printed, takesEffect, isSetUp, NoSetUp, Cut, dataAt, commitAt, setUpAt, RightText, UnfitText, LastSetUp}
 use Rattle.history.proofs.Decimals.{first-small}
 use Rattle.history.proofs.Fronts.{Housed, good-initial, setUpOn, set-up-answered, front-set-up, line-good, line-follows}
 use Rattle.history.proofs.AllCalls.{all-unfit}

@@ -16,7 +16,7 @@ use Rattle.spec.specs.Run.{Call, Begin, Read, Write, Advance, Abandon, Trim, Fr
 use Rattle.spec.specs.Table.{Value, Observed}
 use Rattle.spec.specs.Right.{observed, AllUnfit}
 use Rattle.spec.specs.Text.{str, hexText, formOf, valueIn, freeText, droppedText, begunText, progressText, refusedText, answerText, lineText}
-use Rattle.spec.specs.Session.{initial, front, answerTo, answers, lines, output}
+use Rattle.spec.specs.Session.{memoryAfter, initial, front, answers, lines, output}
 use Rattle.history.specs.Demand.{Demand3}
 
 -- ---- the text of what a call gave: "Results are free, number and snapshot, value or unwritten, stage, waiting, conflict, done, dropped, refused;
@@ -114,11 +114,6 @@ NoSetUp [] = Unit {0}
 NoSetUp (l ∷ ls) = (isSetUp (asked l) ≡ false) × NoSetUp ls
 
 -- ---- the claims
-
--- the program's memory after lines
-unfoldable pub memoryAfter : Memory → List (List ℕ) → Memory
-memoryAfter m [] = m
-memoryAfter m (l ∷ ls) = memoryAfter (answerTo l m .memory) ls
 
 -- An input is cut behind a line l, a set-up that is answered, and before the next such line, if there is one: `before` are the lines before l,
 -- `after` those behind it, `rest` those from the next one on.

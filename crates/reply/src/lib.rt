@@ -15,7 +15,7 @@ ghost use lib.ListN.{length};
 ghost use Rattle.spec.specs.Answers.{code, figureOf, beginOf, readOf, advanceOf};
 ghost use Rattle.spec.specs.Text.{str, numbered, headText, lineText, answerText, freeText, droppedText, begunText};
 ghost use Rattle.spec.specs.Text.{readingText, progressText, refusedText, hexText};
-ghost use Rattle.text.specs.Inner.{Put};
+ghost use Rattle.text.specs.Inner.{answerRoom, Put};
 
 // Document 01's number of a refusal; 11 is unused.
 pub fn code_of(r: Refusal) -> u32
@@ -102,11 +102,11 @@ fn put_head(out: &mut [u8], at: usize, form: Form) -> usize
 
 // The result is a word and a number.
 fn number_line(out: &mut [u8], at: usize, form: Form, word: &[u8], n: u32) -> usize
-    requires { ⌜ at + 90 ≤ length (now out) ⌝ }
+    requires { ⌜ at + answerRoom ≤ length (now out) ⌝ }
     requires { ⌜ length (now word) ≤ 10 ⌝ }
     ensures { λ r. ⌜ Put (now (out .entry)) at (lineText form (numbered (now (word .entry)) n (str ")"))) (now
         (out .exit)) r ⌝ }
-    ensures { λ r. ⌜ r ≤ at + 90 ⌝ }
+    ensures { λ r. ⌜ r ≤ at + answerRoom ⌝ }
 {
     let a = put_head(out, at, form);
     put_numbered(out, a, word, n, b"))\n")
@@ -114,9 +114,9 @@ fn number_line(out: &mut [u8], at: usize, form: Form, word: &[u8], n: u32) -> us
 
 // The result is what Begin gives.
 fn open_line(out: &mut [u8], at: usize, form: Form, begun: Begun) -> usize
-    requires { ⌜ at + 90 ≤ length (now out) ⌝ }
+    requires { ⌜ at + answerRoom ≤ length (now out) ⌝ }
     ensures { λ r. ⌜ Put (now (out .entry)) at (lineText form (begunText begun)) (now (out .exit)) r ⌝ }
-    ensures { λ r. ⌜ r ≤ at + 90 ⌝ }
+    ensures { λ r. ⌜ r ≤ at + answerRoom ⌝ }
 {
     let a = put_head(out, at, form);
     let b = put_numbered(out, a, b"(number ", begun.number, b") ");
@@ -125,11 +125,11 @@ fn open_line(out: &mut [u8], at: usize, form: Form, begun: Begun) -> usize
 
 // The result is a value.
 fn value_line(out: &mut [u8], at: usize, form: Form, value: &[u8]) -> usize
-    requires { ⌜ at + 90 ≤ length (now out) ⌝ }
+    requires { ⌜ at + answerRoom ≤ length (now out) ⌝ }
     requires { ⌜ length (now value) ≤ 16 ⌝ }
     ensures { λ r. ⌜ Put (now (out .entry)) at
         (lineText form (str "(value " ++ (hexText (now (value .entry)) ++ str ")"))) (now (out .exit)) r ⌝ }
-    ensures { λ r. ⌜ r ≤ at + 90 ⌝ }
+    ensures { λ r. ⌜ r ≤ at + answerRoom ⌝ }
 {
     let a = put_head(out, at, form);
     let b = text::put(out, a, b"(value ");
@@ -138,9 +138,9 @@ fn value_line(out: &mut [u8], at: usize, form: Form, value: &[u8]) -> usize
 }
 
 pub fn refused_line(out: &mut [u8], at: usize, form: Form, number: u32) -> usize
-    requires { ⌜ at + 90 ≤ length (now out) ⌝ }
+    requires { ⌜ at + answerRoom ≤ length (now out) ⌝ }
     ensures { λ r. ⌜ Put (now (out .entry)) at (lineText form (refusedText number)) (now (out .exit)) r ⌝ }
-    ensures { λ r. ⌜ r ≤ at + 90 ⌝ }
+    ensures { λ r. ⌜ r ≤ at + answerRoom ⌝ }
 {
     number_line(out, at, form, b"(refused ", number)
 }
@@ -148,10 +148,10 @@ pub fn refused_line(out: &mut [u8], at: usize, form: Form, number: u32) -> usize
 // ---- lines by the kind of answer
 
 pub fn free_line(out: &mut [u8], at: usize, form: Form, answer: FigureAnswer) -> usize
-    requires { ⌜ at + 90 ≤ length (now out) ⌝ }
+    requires { ⌜ at + answerRoom ≤ length (now out) ⌝ }
     ensures { λ r. ⌜ Put (now (out .entry)) at (lineText form (answerText freeText (figureOf answer)))
         (now (out .exit)) r ⌝ }
-    ensures { λ r. ⌜ r ≤ at + 90 ⌝ }
+    ensures { λ r. ⌜ r ≤ at + answerRoom ⌝ }
 {
     match answer {
         FigureAnswer::Answered(n) => number_line(out, at, form, b"(free ", n),
@@ -160,10 +160,10 @@ pub fn free_line(out: &mut [u8], at: usize, form: Form, answer: FigureAnswer) ->
 }
 
 pub fn dropped_line(out: &mut [u8], at: usize, form: Form, answer: FigureAnswer) -> usize
-    requires { ⌜ at + 90 ≤ length (now out) ⌝ }
+    requires { ⌜ at + answerRoom ≤ length (now out) ⌝ }
     ensures { λ r. ⌜ Put (now (out .entry)) at (lineText form (answerText droppedText (figureOf answer)))
         (now (out .exit)) r ⌝ }
-    ensures { λ r. ⌜ r ≤ at + 90 ⌝ }
+    ensures { λ r. ⌜ r ≤ at + answerRoom ⌝ }
 {
     match answer {
         FigureAnswer::Answered(n) => number_line(out, at, form, b"(dropped ", n),
@@ -172,10 +172,10 @@ pub fn dropped_line(out: &mut [u8], at: usize, form: Form, answer: FigureAnswer)
 }
 
 pub fn begun_line(out: &mut [u8], at: usize, form: Form, answer: BeginAnswer) -> usize
-    requires { ⌜ at + 90 ≤ length (now out) ⌝ }
+    requires { ⌜ at + answerRoom ≤ length (now out) ⌝ }
     ensures { λ r. ⌜ Put (now (out .entry)) at (lineText form (answerText begunText (beginOf answer)))
         (now (out .exit)) r ⌝ }
-    ensures { λ r. ⌜ r ≤ at + 90 ⌝ }
+    ensures { λ r. ⌜ r ≤ at + answerRoom ⌝ }
 {
     match answer {
         BeginAnswer::Answered(begun) => open_line(out, at, form, begun),
@@ -191,11 +191,11 @@ pub fn reading_line(
     answer: ReadAnswer,
     value: &[u8],
 ) -> usize
-    requires { ⌜ at + 90 ≤ length (now out) ⌝ }
+    requires { ⌜ at + answerRoom ≤ length (now out) ⌝ }
     requires { ⌜ length (now value) ≤ 16 ⌝ }
     ensures { λ r. ⌜ Put (now (out .entry)) at
         (lineText form (answerText (readingText (now (value .entry))) (readOf answer))) (now (out .exit)) r ⌝ }
-    ensures { λ r. ⌜ r ≤ at + 90 ⌝ }
+    ensures { λ r. ⌜ r ≤ at + answerRoom ⌝ }
 {
     match answer {
         ReadAnswer::Answered(reading) => match reading {
@@ -210,10 +210,10 @@ pub fn reading_line(
 }
 
 pub fn progress_line(out: &mut [u8], at: usize, form: Form, answer: AdvanceAnswer) -> usize
-    requires { ⌜ at + 90 ≤ length (now out) ⌝ }
+    requires { ⌜ at + answerRoom ≤ length (now out) ⌝ }
     ensures { λ r. ⌜ Put (now (out .entry)) at (lineText form (answerText progressText (advanceOf answer)))
         (now (out .exit)) r ⌝ }
-    ensures { λ r. ⌜ r ≤ at + 90 ⌝ }
+    ensures { λ r. ⌜ r ≤ at + answerRoom ⌝ }
 {
     match answer {
         AdvanceAnswer::Answered(progress) => match progress {

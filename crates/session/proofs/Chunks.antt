@@ -12,9 +12,9 @@ use borrow.Author.Tests.{eq-eqb, ne-eqb}
 use lib.ListN.{length, getD, take, drop, length-drop, drop-of-length-le}
 use lib.Seq.{drop-cons, drop-drop}
 use lib.Dec.{eqb}
-use Rattle.spec.specs.Session.{answerTo, answers}
+use Rattle.spec.specs.Session.{answerTo, answers, memoryAfter}
 use Rattle.spec.specs.Bytes.{Memory}
-use Rattle.session.specs.Inner.{newlineFrom, push, linesOf, unlessLines, restOf, Spoken, memoryAfter}
+use Rattle.session.specs.Inner.{newlineFrom, push, linesOf, unlessLines, restOf, Spoken}
 
 -- ---- one turn of the search for a newline
 
@@ -102,11 +102,56 @@ lines-at s from e h m l =
     let z : from + suc (e - from) ≡ e + 1 = omega arith in
     lines-first (drop from s) from e (sym h) k ∙ rw (drop-drop, z)
 
+-- what is begun behind the first line is what is begun
+rest-first : (t : List ℕ) (i e : ℕ) → newlineFrom i t ≡ e → e < i + length t → restOf t ≡ restOf (drop (suc (e - i)) t)
+rest-first [] i e h l = absurd (omega (arith, newline-nil i))
+rest-first (b ∷ t) i e h l =
+    ⊎-elim
+    (λ q.
+    let z : e - i ≡ 0 = omega (arith, newline-here b t i q) in
+    rw z (rest-here b t q))
+    (λ q.
+    let g : newlineFrom (i + 1) t ≡ e = sym (newline-past b t i q) ∙ h in
+    let m : i + 1 ≤ e = omega (arith, newline-from t (i + 1)) in
+    let z : e - i ≡ suc (e - (i + 1)) = omega arith in
+    let k : e < i + 1 + length t = omega arith in
+    rw z (rest-past b t q ∙ ap (λ ls. unlessLines ls b (restOf t)) (lines-first t (i + 1) e g k) ∙ rest-first t (i + 1) e g k))
+    (either (eqb b 10))
+
+pub rest-at : (s : List ℕ) (from e : ℕ) → e ≡ newlineFrom from (drop from s) → from ≤ e → e < length s
+    → restOf (drop from s) ≡ restOf (drop (e + 1) s)
+rest-at s from e h m l =
+    let k : e < from + length (drop from s) = simp length-drop (omega arith) in
+    let z : from + suc (e - from) ≡ e + 1 = omega arith in
+    rest-first (drop from s) from e (sym h) k ∙ rw (drop-drop, z)
+
+-- where there is no newline, there is no whole line, and all is begun
+none-first : (t : List ℕ) (i : ℕ) → newlineFrom i t ≡ i + length t → (linesOf t ≡ []) × (restOf t ≡ t)
+none-first [] i h = (lines-nil, rest-nil)
+none-first (b ∷ t) i h =
+    ⊎-elim
+    (λ q. absurd (omega (arith, newline-here b t i q)))
+    (λ q.
+    let g : newlineFrom (i + 1) t ≡ i + 1 + length t = omega (arith, newline-past b t i q) in
+    let n = none-first t (i + 1) g in
+    (lines-past b t q ∙ ap (push b) (n .0), rest-past b t q ∙ ap (λ ls. unlessLines ls b (restOf t)) (n .0) ∙ ap (λ r. b ∷ r) (n .1)))
+    (either (eqb b 10))
+
+pub none-left : (s : List ℕ) (from : ℕ) → from ≤ length s → newlineFrom from (drop from s) ≡ length s
+    → (linesOf (drop from s) ≡ []) × (restOf (drop from s) ≡ drop from s)
+none-left s from m h =
+    let k : length s ≡ from + length (drop from s) = simp length-drop (omega arith) in
+    none-first (drop from s) from (h ∙ k)
+
 -- ---- one turn of a loop over lines
 
 pub answers-cons : (w : Memory) (l : List ℕ) (ls : List (List ℕ)) → answers w (l ∷ ls) ≡ answerTo l w .text ++ answers (answerTo l w .memory) ls
 unfolding answers
 answers-cons w l ls = refl
+
+pub after-nil : (w : Memory) → memoryAfter w [] ≡ w
+unfolding memoryAfter
+after-nil w = refl
 
 pub after-cons : (w : Memory) (l : List ℕ) (ls : List (List ℕ)) → memoryAfter w (l ∷ ls) ≡ memoryAfter (answerTo l w .memory) ls
 unfolding memoryAfter

@@ -13,9 +13,9 @@ use lib.Dec.{eqb, leb}
 use lib.ListN.{length, take, length-append}
 use lib.Seq.{length-take-le, take-all}
 use Rattle.spec.specs.Text.{formOf}
-use Rattle.spec.specs.Session.{answerTo, answers, response, glue, lines, initial, output}
+use Rattle.spec.specs.Session.{answerTo, answers, response, glue, lines, initial, output, memoryAfter}
 use Rattle.spec.specs.Bytes.{Memory}
-use Rattle.session.specs.Inner.{push, linesOf, unlessLines, restOf, memoryAfter, joined, unfinished, inChunks}
+use Rattle.session.specs.Inner.{push, linesOf, unlessLines, restOf, joined, unfinished, inChunks}
 use Rattle.session.proofs.Chunks.{either, lines-nil, rest-nil, lines-here, lines-past, rest-here, rest-past, answers-cons, after-cons}
 
 -- ---- the lines of an input by those that end in a newline

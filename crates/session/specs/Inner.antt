@@ -4,15 +4,16 @@ use Prim.Native.Nat.{ℕ, _+_, _≤_, _<_}
 use mathlib.Core.List.{List, [], _∷_, _++_}
 use lib.Dec.{eqb}
 use Rattle.spec.specs.Choice.{if_then_else_}
+use mathlib.Core.Bool.{Bool, true, false}
 use mathlib.Core.Path.{_≡_}
 use mathlib.Core.Logic.{_⊎_}
 use lib.ListN.{length, take, drop}
 use Rattle.spec.specs.declared.Store.{Store}
 use Rattle.spec.specs.declared.FigureAnswer.{FigureAnswer}
 use Rattle.spec.specs.declared.FigureAnswer.the-variants.{Answered, Refused}
-use Rattle.spec.specs.Session.{Response, answerTo, answers}
+use Rattle.spec.specs.Session.{memoryAfter, Response, answers, initial}
 use Rattle.spec.specs.Bytes.{Memory}
-use Rattle.text.specs.Inner.{Put}
+use Rattle.text.specs.Inner.{answerRoom, Put}
 
 -- ---- The lines of an input that end in a newline, and what stands behind the last of them.
 
@@ -50,26 +51,28 @@ Front n len r = (r ≡ n) ⊎ ((r ≡ len) × (len ≤ n))
 pub record Spoken (p : Response) (w : Memory) (out : List ℕ) (at : ℕ) (out′ : List ℕ) (used : ℕ) : Type 0 where
   pub memory : w ≡ p .memory
   pub text : Put out at (p .text) out′ used
-  pub room : used ≤ at + 90
+  pub room : used ≤ at + answerRoom
 
 -- "a refused set-up keeps the old one"
 abbrev pub keptOf : Store → Store → FigureAnswer → Store
 keptOf old new (Answered n) = new
 keptOf old new (Refused r) = old
 
--- what lines leave, one after the other
-unfoldable pub memoryAfter : Memory → List (List ℕ) → Memory
-memoryAfter w [] = w
-memoryAfter w (l ∷ ls) = memoryAfter (answerTo l w .memory) ls
-
--- the text in out has grown by the answers to the lines of s between two places, and the state has gone along; what is left has no whole
--- line, or out has no room for an answer
+-- the text in out has grown by the answers to the lines of s between two places, and the state has gone along; what is begun at the end of s
+-- is still to come; what is left has no whole line, or out has no room for an answer; where no line was answered, nothing was said
 pub record Fed (s : List ℕ) (start : ℕ) (w : Memory) (out : List ℕ) (at : ℕ) (from : ℕ) (w′ : Memory) (out′ : List ℕ) (used : ℕ) : Type 0 where
   pub text : take used out′ ++ answers w′ (linesOf (drop from s)) ≡ take at out ++ answers w (linesOf (drop start s))
   pub state : memoryAfter w′ (linesOf (drop from s)) ≡ memoryAfter w (linesOf (drop start s))
+  pub rest : restOf (drop from s) ≡ restOf (drop start s)
   pub within : from ≤ length s
   pub room : used ≤ length out′
-  pub stopped : (length out′ < used + 90) ⊎ (newlineFrom from (drop from s) ≡ length s)
+  pub stopped : (length out′ < used + answerRoom) ⊎ (newlineFrom from (drop from s) ≡ length s)
+  pub moved : (start < from) ⊎ ((from ≡ start) × (used ≡ at))
+
+-- w′ is what all whole lines of s leave of w, and from a place on stands what is behind the last newline
+pub record Emptied (s : List ℕ) (w w′ : Memory) (from : ℕ) : Type 0 where
+  pub memory : w′ ≡ memoryAfter w (linesOf s)
+  pub begun : drop from s ≡ restOf s
 
 -- ---- An input that is read in chunks: what is printed for it, chunk by chunk, with a begun line kept from one chunk to the next. The program reads,
 -- answers and keeps in this way (`chunk` and `keep`); proofs/Input.antt shows that it prints what the whole input asks for, however it is cut.
@@ -84,8 +87,46 @@ abbrev pub unfinished : List ℕ → List (List ℕ)
 unfinished [] = []
 unfinished (b ∷ l) = (b ∷ l) ∷ []
 
+-- of a begun line so many bytes are kept: one more than a form may have, so that a line that is too long stays too long
+abbrev pub mostKept : ℕ
+mostKept = 81
+
 -- the answers to the whole lines of a chunk behind what was kept; of the line that it leaves begun, 81 bytes at most are kept
 unfoldable pub inChunks : Memory → List ℕ → List (List ℕ) → List ℕ
 inChunks w kept [] = answers w (unfinished kept)
 inChunks w kept (c ∷ cs) =
-    answers w (linesOf (kept ++ c)) ++ inChunks (memoryAfter w (linesOf (kept ++ c))) (take 81 (restOf (kept ++ c))) cs
+    answers w (linesOf (kept ++ c)) ++ inChunks (memoryAfter w (linesOf (kept ++ c))) (take mostKept (restOf (kept ++ c))) cs
+
+-- ---- What the program has come to after some chunks: the memory that their whole lines leave, and what is kept of the line that is begun.
+
+unfoldable pub memoryReached : Memory → List ℕ → List (List ℕ) → Memory
+memoryReached w kept [] = w
+memoryReached w kept (c ∷ cs) = memoryReached (memoryAfter w (linesOf (kept ++ c))) (take mostKept (restOf (kept ++ c))) cs
+
+unfoldable pub keptReached : Memory → List ℕ → List (List ℕ) → List ℕ
+keptReached w kept [] = kept
+keptReached w kept (c ∷ cs) = keptReached (memoryAfter w (linesOf (kept ++ c))) (take mostKept (restOf (kept ++ c))) cs
+
+-- what is printed for them: the answers to their whole lines
+unfoldable pub printedChunks : Memory → List ℕ → List (List ℕ) → List ℕ
+printedChunks w kept [] = []
+printedChunks w kept (c ∷ cs) =
+    answers w (linesOf (kept ++ c)) ++ printedChunks (memoryAfter w (linesOf (kept ++ c))) (take mostKept (restOf (kept ++ c))) cs
+
+-- a chunk, of a byte at least, has come behind what was kept: its whole lines are answered, and of the line that it leaves begun, 81 bytes at most are kept
+pub record Came (w : Memory) (kept : List ℕ) (w′ : Memory) (kept′ : List ℕ) : Type 0 where
+  pub chunk : List ℕ
+  pub came : 1 ≤ length chunk
+  pub memory : w′ ≡ memoryAfter w (linesOf (kept ++ chunk))
+  pub begun : kept′ ≡ take mostKept (restOf (kept ++ chunk))
+
+-- one turn: a chunk has come, or nothing more, and all is as it was
+abbrev pub Turns : Bool → Memory → List ℕ → Memory → List ℕ → Type 0
+Turns true w kept w′ kept′ = Came w kept w′ kept′
+Turns false w kept w′ kept′ = (w′ ≡ w) × (kept′ ≡ kept)
+
+-- the program has come to this memory and these kept bytes from its start, by some chunks of input. "Before a set-up the store has 0 rows"
+pub record ProgramAt (w : Memory) (kept : List ℕ) : Type 0 where
+  pub chunks : List (List ℕ)
+  pub memory : w ≡ memoryReached initial [] chunks
+  pub begun : kept ≡ keptReached initial [] chunks

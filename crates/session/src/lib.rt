@@ -1,10 +1,11 @@
-// The answer to a line, on the record and the program's two buffers, and to the whole lines of a chunk of input. Definitions: crate spec,
-// specs/Session.antt.
+// The answer to a line, on the record and the program's two buffers, and to the whole lines of a chunk of input.
+// Definitions: crate spec, specs/Session.antt.
 use spec::FigureAnswer;
 use spec::Form;
 use spec::ReadAnswer;
 use spec::Reading;
 use spec::Store;
+use text::ANSWER_ROOM;
 ghost use mathlib.Core.Path.{_≡_};
 ghost use Prim.Native.Nat.{_+_, _*_, _-_, _≤_};
 ghost use lib.ListN.{length, take, drop};
@@ -14,7 +15,11 @@ ghost use Rattle.spec.specs.Run.{Begin, Read, Write, Advance, Abandon, Trim, Fr
 ghost use Rattle.spec.specs.Text.{valueIn};
 ghost use Rattle.spec.specs.Values.{valueFrom};
 ghost use Rattle.spec.specs.Session.{said, setUpResponse, answerTo};
-ghost use Rattle.session.specs.Inner.{newlineFrom, Front, Spoken, keptOf, Fed};
+ghost use Rattle.text.specs.Inner.{answerRoom};
+ghost use Rattle.session.specs.Inner.{mostKept, newlineFrom, Front, Spoken, keptOf, Fed};
+
+// Of a begun line so many bytes are kept: one more than a form may have.
+const MOST_KEPT: usize = 81;
 
 pub struct Answered {
     pub store: Store,
@@ -51,7 +56,7 @@ fn set_up_said(
     out: &mut [u8],
     at: usize,
 ) -> Answered
-    requires { ⌜ at + 90 ≤ length (now out) ⌝ }
+    requires { ⌜ at + answerRoom ≤ length (now out) ⌝ }
     ensures { λ r. ⌜ Spoken
         (setUpResponse (Form.SetUp count first limit) count first limit
         (memoryOf store (now (rows .entry)) (now (commits .entry))))
@@ -87,7 +92,7 @@ fn begin_said(
     out: &mut [u8],
     at: usize,
 ) -> Answered
-    requires { ⌜ at + 90 ≤ length (now out) ⌝ }
+    requires { ⌜ at + answerRoom ≤ length (now out) ⌝ }
     ensures { λ r. ⌜ Spoken
         (said (Form.Begin client) (Begin client) (memoryOf store (now (rows .entry)) (now (commits .entry))))
         (memoryOf (r .store) (now (rows .entry)) (now (commits .entry)))
@@ -124,7 +129,7 @@ fn read_said(
     out: &mut [u8],
     at: usize,
 ) -> Answered
-    requires { ⌜ at + 90 ≤ length (now out) ⌝ }
+    requires { ⌜ at + answerRoom ≤ length (now out) ⌝ }
     ensures { λ r. ⌜ Spoken
         (said (Form.Read client cell) (Read client cell) (memoryOf store (now (rows .entry)) (now (commits .entry))))
         (memoryOf (r .store) (now (rows .entry)) (now (commits .entry)))
@@ -152,7 +157,7 @@ fn write_said(
     out: &mut [u8],
     at: usize,
 ) -> Answered
-    requires { ⌜ at + 90 ≤ length (now out) ⌝ }
+    requires { ⌜ at + answerRoom ≤ length (now out) ⌝ }
     ensures { λ r. ⌜ Spoken
         (said (Form.Write client cell place) (Write client cell (valueIn (now (line .entry)) place))
         (memoryOf store (now (rows .entry)) (now (commits .entry))))
@@ -186,7 +191,7 @@ fn advance_said(
     out: &mut [u8],
     at: usize,
 ) -> Answered
-    requires { ⌜ at + 90 ≤ length (now out) ⌝ }
+    requires { ⌜ at + answerRoom ≤ length (now out) ⌝ }
     ensures { λ r. ⌜ Spoken
         (said (Form.Advance client) (Advance client) (memoryOf store (now (rows .entry)) (now (commits .entry))))
         (memoryOf (r .store) (now (rows .exit)) (now (commits .exit)))
@@ -209,7 +214,7 @@ fn abandon_said(
     out: &mut [u8],
     at: usize,
 ) -> Answered
-    requires { ⌜ at + 90 ≤ length (now out) ⌝ }
+    requires { ⌜ at + answerRoom ≤ length (now out) ⌝ }
     ensures { λ r. ⌜ Spoken
         (said (Form.Abandon client) (Abandon client) (memoryOf store (now (rows .entry)) (now (commits .entry))))
         (memoryOf (r .store) (now (rows .exit)) (now (commits .entry)))
@@ -231,7 +236,7 @@ fn trim_said(
     out: &mut [u8],
     at: usize,
 ) -> Answered
-    requires { ⌜ at + 90 ≤ length (now out) ⌝ }
+    requires { ⌜ at + answerRoom ≤ length (now out) ⌝ }
     ensures { λ r. ⌜ Spoken
         (said Form.Trim Trim (memoryOf store (now (rows .entry)) (now (commits .entry))))
         (memoryOf (r .store) (now (rows .exit)) (now (commits .exit)))
@@ -247,7 +252,7 @@ fn trim_said(
 }
 
 fn free_said(store: Store, rows: &[u8], commits: &[u8], out: &mut [u8], at: usize) -> Answered
-    requires { ⌜ at + 90 ≤ length (now out) ⌝ }
+    requires { ⌜ at + answerRoom ≤ length (now out) ⌝ }
     ensures { λ r. ⌜ Spoken
         (said Form.Free Free (memoryOf store (now (rows .entry)) (now (commits .entry))))
         (memoryOf (r .store) (now (rows .entry)) (now (commits .entry)))
@@ -272,7 +277,7 @@ pub fn answer_line(
     out: &mut [u8],
     at: usize,
 ) -> Answered
-    requires { ⌜ at + 90 ≤ length (now out) ⌝ }
+    requires { ⌜ at + answerRoom ≤ length (now out) ⌝ }
     ensures { λ r. ⌜ Spoken
         (answerTo (now (line .entry)) (memoryOf store (now (rows .entry)) (now (commits .entry))))
         (memoryOf (r .store) (now (rows .exit)) (now (commits .exit)))
@@ -347,14 +352,14 @@ pub fn chunk(
     let mut from = start;
     let mut used = at;
     while from < buf.len() {
-        if out.len() < 90 {
+        if out.len() < ANSWER_ROOM {
             return Chunked {
                 store: s,
                 from,
                 used,
             };
         }
-        if out.len() - 90 < used {
+        if out.len() - ANSWER_ROOM < used {
             return Chunked {
                 store: s,
                 from,
@@ -384,13 +389,13 @@ pub fn chunk(
 // Moves what stands between two places to the front, 81 bytes at most: a line that is too long stays too long.
 pub fn keep(buf: &mut [u8], from: usize, end: usize) -> usize
     requires { ⌜ (from ≤ end) × (end ≤ length (now buf)) ⌝ }
-    ensures { λ r. ⌜ take r (now (buf .exit)) ≡ take 81 (take (end - from) (drop from (now (buf .entry)))) ⌝ }
-    ensures { λ r. ⌜ r ≤ 81 ⌝ }
+    ensures { λ r. ⌜ take r (now (buf .exit)) ≡ take mostKept (take (end - from) (drop from (now (buf .entry)))) ⌝ }
+    ensures { λ r. ⌜ r ≤ mostKept ⌝ }
 {
     let mut i = 0;
     let mut o = from;
     while o < end {
-        if 81 <= i {
+        if MOST_KEPT <= i {
             return i;
         }
         buf[i] = buf[o];

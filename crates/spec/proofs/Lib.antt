@@ -3,6 +3,7 @@ pub mod House
 pub mod Ends
 pub mod AccordOrderly
 pub mod AccordServed
+pub mod AccordRight
 pub mod AccordSets
 pub mod Bytes
 pub mod Laid

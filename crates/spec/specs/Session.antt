@@ -87,6 +87,11 @@ unfoldable pub answers : Memory → List (List ℕ) → List ℕ
 answers m [] = []
 answers m (l ∷ ls) = let r : Response = answerTo l m in r .text ++ answers (r .memory) ls
 
+-- the memory that they leave
+unfoldable pub memoryAfter : Memory → List (List ℕ) → Memory
+memoryAfter m [] = m
+memoryAfter m (l ∷ ls) = memoryAfter (answerTo l m .memory) ls
+
 -- "forms from standard input, one a line (the last needs no newline)"
 abbrev pub glue : ℕ → List (List ℕ) → List (List ℕ)
 glue b [] = (b ∷ []) ∷ []

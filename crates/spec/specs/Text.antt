@@ -200,8 +200,11 @@ formIn s =
     Other
 
 -- "Any other line, an empty one or one over 80 bytes"
+abbrev pub longestForm : ℕ
+longestForm = 80
+
 unfoldable pub formOf : List ℕ → Form
-formOf s = if ltb 80 (length s) then Other else formIn s
+formOf s = if ltb longestForm (length s) then Other else formIn s
 
 -- ---- what is printed: "Each answer repeats keyword, client and cell, then gives its result in inner brackets."
 

@@ -18,3 +18,7 @@ pub record Spelled (n : ℕ) (bytes : List ℕ) (from : ℕ) : Type 0 where
   pub whole : drop from bytes ≡ decimalOf n
   pub ten : length bytes ≡ 10
   pub within : from ≤ 10
+
+-- the room that an answer line may take, with its newline
+abbrev pub answerRoom : ℕ
+answerRoom = 90

@@ -14,6 +14,12 @@ ghost use Rattle.spec.specs.Text.{decimalOf, hexVal, hexAt, hexDigit, hexText, 
 ghost use Rattle.spec.specs.Text.{setUpOf, writeOf, formIn, formOf};
 ghost use Rattle.text.specs.Inner.{Put, Spelled};
 
+// A line of more bytes is no form.
+const LONGEST_FORM: usize = 80;
+
+// The room that an answer line may take, with its newline.
+pub const ANSWER_ROOM: usize = 90;
+
 // ---- bytes of a line
 
 // Whether the line begins with the word.
@@ -317,7 +323,7 @@ fn form_in(line: &[u8]) -> Form
 pub fn form_of(line: &[u8]) -> Form
     ensures { λ r. ⌜ r ≡ formOf (now (line .entry)) ⌝ }
 {
-    if 80 < line.len() {
+    if LONGEST_FORM < line.len() {
         return Form::Other;
     }
     form_in(line)
