@@ -12,10 +12,10 @@ use Rattle.spec.specs.Numbers.{upTo}
 use Rattle.spec.specs.Look.{commitOf, isOwn, find, versionOf, newer, versionAt, newest, ownOr, lookFor}
 use Rattle.spec.specs.Share.{any, wrote, cellsOf}
 use Rattle.spec.specs.Answers.{Answered}
-use Rattle.spec.specs.Image.{empty}
-use Rattle.spec.specs.Calls.{free, begun, begin, read, replaced, added, write}
+use Rattle.spec.specs.Image.{cleared, closed, empty}
+use Rattle.spec.specs.Calls.{free, begun, begin, read, replaced, added, write, removed, abandon}
 use Rattle.spec.specs.Bytes.{decode, storeOf, Memory, encode, known, fits, onBytes, accepts, setUp}
-use Rattle.spec.specs.Run.{Call, Begin, Read, Write}
+use Rattle.spec.specs.Run.{Call, Begin, Read, Write, Abandon}
 use Rattle.spec.specs.Table.{Value, Open, override, newlyOpen, withWrites, blank, update}
 use Rattle.spec.specs.Right.{boundsOf, lastNumber, valued, WriteRefusal, for-limit, RightRun}
 
@@ -26,9 +26,9 @@ ones = replicate 16 1
 abbrev start : Memory
 start = setUp (replicate 48 0) (replicate 16 0) 1 1 .memory
 
--- client 0 writes cell 7, reads it, and has no second cell
+-- client 0 writes cell 7, reads it, has no second cell and gives up; client 1 begins with the next number
 abbrev calls : List Call
-calls = Begin 0 ∷ Write 0 7 ones ∷ Read 0 7 ∷ Write 0 8 ones ∷ []
+calls = Begin 0 ∷ Write 0 7 ones ∷ Read 0 7 ∷ Write 0 8 ones ∷ Abandon 0 ∷ Begin 1 ∷ []
 
 -- the client in the plain table, before its write and after it
 abbrev begun-client : Open
@@ -48,7 +48,7 @@ unfolding
     spliced number bytesOf dataRow tagOf cellOf valueOf withValue commitNumber commitTag rowAt rowsIn rowsFrom layout filter hasTag
     upTo commitOf isOwn find versionOf newer versionAt newest ownOr lookFor
     any wrote cellsOf
-    empty free begun begin read replaced added write
+    cleared closed empty free begun begin read replaced added write removed abandon
     decode storeOf encode known fits onBytes accepts setUp
     override blank update lastNumber valued or-writer
 right-run = (
@@ -66,7 +66,10 @@ right-run = (
         λ o e.
             subst (λ (p : Open). WriteRefusal 1 (p .stage) (p .writes) 8 ones (Answered 1) 9) (ap or-writer e)
             (for-limit (record { cell = omega arith; bytes = refl; stage = refl }) refl (omega arith)),
-        tt,
+        (
+          record { entry = writer; found = refl; stage = omega arith; figure = refl },
+          (record { client = omega arith; closed = refl; number = refl; most = omega arith; snapshot = refl }, tt),
+        ),
       ),
     ),
   ),

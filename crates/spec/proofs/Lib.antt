@@ -2,7 +2,7 @@ pub mod Accord
 pub mod House
 pub mod Ends
 pub mod AccordOrderly
-pub mod AccordServed
+pub mod AccordMarked
 pub mod AccordRight
 pub mod AccordSets
 pub mod Bytes

@@ -279,12 +279,12 @@ fn look_commits(store: Store, client: u32) -> AdvanceTurn
     let queue = commit_queue();
     let k = client as usize;
     let stages = store.stage;
-    let commits = store.commit;
-    let own = commits[k];
+    let noted = store.commit;
+    let own = noted[k];
     let mut next = store;
     let mut lists = store.commitWaits;
     let before = lists[k];
-    let list = record::look(queue, own, &stages, &commits, before);
+    let list = record::look(queue, own, &stages, &noted, before);
     lists[k] = list;
     next.commitWaits = lists;
     looked(next, client, list, 11)

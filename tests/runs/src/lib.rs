@@ -9,7 +9,7 @@ use model::forms::{form_text, lines, Form, Grammar};
 use model::gen::generate_under;
 use model::tickets::{Ticket, Tickets};
 use std::collections::{BTreeMap, BTreeSet};
-use std::io::{Read, Write};
+use std::io::{BufRead, BufReader, Read, Write};
 use std::path::PathBuf;
 use std::process::{Command, Stdio};
 use std::thread;
@@ -59,6 +59,27 @@ pub fn output_in_pieces(input: &[u8], piece: usize) -> Vec<u8> {
 
 pub fn output(input: &[u8]) -> Vec<u8> {
     output_in_pieces(input, 1 << 20)
+}
+
+/// The step program, line by line: each line is written only when the line before it is answered, so that there are as many reads as lines. What it
+/// prints in all.
+pub fn output_in_turns(script: &[u8]) -> Vec<u8> {
+    let mut child = Command::new(program())
+        .stdin(Stdio::piped())
+        .stdout(Stdio::piped())
+        .spawn()
+        .expect("the step program is built by `rt check`");
+    let mut stdin = child.stdin.take().expect("piped");
+    let mut stdout = BufReader::new(child.stdout.take().expect("piped"));
+    let mut printed = Vec::new();
+    for line in script.split_inclusive(|&byte| byte == b'\n') {
+        stdin.write_all(line).expect("the program reads all of its input");
+        let answered = stdout.read_until(b'\n', &mut printed).expect("readable output");
+        assert!(answered > 0, "no answer after {} bytes", printed.len());
+    }
+    drop(stdin);
+    assert!(child.wait().expect("the program ends").success());
+    printed
 }
 
 /// What the step program prints for a script, and the checker's report: no difference from the model, nothing broken of the plain table or of the
