@@ -18,7 +18,7 @@ ghost use Rattle.spec.specs.Text.{readingText, progressText, refusedText, hexTe
 ghost use Rattle.text.specs.Inner.{answerRoom, Put};
 
 // Document 01's number of a refusal; 11 is unused.
-pub fn code_of(r: Refusal) -> u32
+fn code_of(r: Refusal) -> u32
     ensures { λ n. ⌜ n ≡ code r ⌝ }
 {
     match r {

@@ -41,7 +41,7 @@ pub fn next_tag(rows: &[u8], from: usize, used: usize, tag: u32) -> usize
     used
 }
 
-pub fn next_cell(rows: &[u8], from: usize, used: usize, cell: u32) -> usize
+fn next_cell(rows: &[u8], from: usize, used: usize, cell: u32) -> usize
     requires { ⌜ dataWidth * used ≤ length (now rows) ⌝ }
     requires { ⌜ from ≤ used ⌝ }
     ensures { λ r. ⌜ Next (λ k. cellOf (rowAt dataWidth k (now (rows .entry))) ≡ cell) from used r ⌝ }

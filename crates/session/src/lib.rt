@@ -21,9 +21,9 @@ ghost use Rattle.session.specs.Inner.{mostKept, newlineFrom, Front, Spok
 // Of a begun line so many bytes are kept: one more than a form may have.
 const MOST_KEPT: usize = 81;
 
-pub struct Answered {
-    pub store: Store,
-    pub used: usize,
+struct Answered {
+    store: Store,
+    used: usize,
 }
 
 // How many bytes of a buffer a call is lent: n, or all where the buffer has fewer.
@@ -269,7 +269,7 @@ fn free_said(store: Store, rows: &[u8], commits: &[u8], out: &mut [u8], at: usiz
 
 // ---- the answer to a line
 
-pub fn answer_line(
+fn answer_line(
     store: Store,
     line: &[u8],
     rows: &mut [u8],
