@@ -90,11 +90,11 @@ unfolding
 the-text = refl
 
 -- "Refused 1 if the data length isn't 24 × rows with rows 1 to 1,024, [..] the first W is 0, or the limit is above 64"
-pub set-ups : (takesEffect 1 1 0 ≡ true)
+pub which-set-ups : (takesEffect 1 1 0 ≡ true)
     × (takesEffect 1024 4294967295 64 ≡ true)
     × (takesEffect 0 1 0 ≡ false)
     × (takesEffect 1025 1 0 ≡ false)
     × (takesEffect 1 0 0 ≡ false)
     × (takesEffect 1 1 65 ≡ false)
 unfolding takesEffect accepts
-set-ups = (refl, refl, refl, refl, refl, refl)
+which-set-ups = (refl, refl, refl, refl, refl, refl)

@@ -71,14 +71,14 @@ pub record Computed : Type 0 where
   pub waiting-anew : InQueue requestLists (afterRun anew small-store .store) 1
   pub number-anew : transactionOf (afterRun anew small-store .store) 1 ≡ 3
 
-pub computed : Computed
+pub listed-once : Computed
 unfolding
     flatten bit member insert remove collect
     spliced number bytesOf dataRow tagOf cellOf rowAt rowsIn rowsFrom layout filter hasTag isOwn find
     any count wrote cellsOf shares cleared closed empty begun begin added write removed abandon
     queued others goOn enter takeRequest listRequests advance
     decode storeOf encode known fits onBytes accepts setUp
-computed = record {
+listed-once = record {
   made = refl;
   listed = refl;
   waiting = refl;

@@ -137,9 +137,9 @@ none-first (b ∷ t) i h =
     (lines-past b t q ∙ ap (push b) (n .0), rest-past b t q ∙ ap (λ ls. unlessLines ls b (restOf t)) (n .0) ∙ ap (λ r. b ∷ r) (n .1)))
     (either (eqb b 10))
 
-pub none-left : (s : List ℕ) (from : ℕ) → from ≤ length s → newlineFrom from (drop from s) ≡ length s
+pub no-line-left : (s : List ℕ) (from : ℕ) → from ≤ length s → newlineFrom from (drop from s) ≡ length s
     → (linesOf (drop from s) ≡ []) × (restOf (drop from s) ≡ drop from s)
-none-left s from m h =
+no-line-left s from m h =
     let k : length s ≡ from + length (drop from s) = simp length-drop (omega arith) in
     none-first (drop from s) from (h ∙ k)
 

@@ -18,7 +18,7 @@ use Rattle.spec.specs.Calls.{Outcome}
 use Rattle.spec.specs.Bytes.{countersIn, clientsIn, recordOf, decode, storeOf, After, afterOf, encode, fits, onBytes, accepts}
 
 -- the tests of a chain that ends in true
-unless : (a b : Bool) → (if a then false else b) ≡ true → (a ≡ false) × (b ≡ true)
+pub unless : (a b : Bool) → (if a then false else b) ≡ true → (a ≡ false) × (b ≡ true)
 unless true b e = absurd (false≢true e)
 unless false b e = (refl, e)
 

@@ -1,6 +1,8 @@
 -- The house cases of document 01 that are marked P, as rows of one table (case 1 with the read that document 02, 1 changes, case 2 with the
 -- clients of document 02, 12), two rows more for mistakes of its list that these eight let pass, and rows for document 02: one for 1, two for 2, two
--- for 9, two for 12. Each row has the lines that are put in, each with the line that is to come out. proofs/House.antt proves the whole table.
+-- for 9, two for 12. Then case 5 with a look after each step, case 9, and rows for sentences of document 01 that no case shows: the commit queue (two),
+-- an Abandon at stage 11, set-ups that are refused, lines that are no form. Each row has the lines that are put in, each with the line that is to come
+-- out. proofs/House.antt proves the whole table.
 -- Assumes nothing.
 use Prim.Native.Nat.{ℕ, zero, suc, _+_, _-_}
 use Prim.Native.String.{String}
@@ -38,6 +40,13 @@ newCells k x f (suc n) =
       got = str "(write " ++ decimalOf k ++ str " " ++ decimalOf x ++ str " (free " ++ decimalOf (f - 1) ++ str "))";
     }
     ∷ newCells k (x + 1) (f - 1) n
+
+-- client 1's look in case 5, and a read of its own value
+abbrev pub stillWaits : List Exchange
+stillWaits =
+    "(advance 1)" ⇒ "(advance 1 (waiting 1))"
+    ∷ "(read 1 7)" ⇒ "(read 1 7 (value ffeeddccbbaa99887766554433221100))"
+    ∷ []
 
 -- the whole input of a case, and the whole output
 abbrev pub inputOf : Case → List ℕ
@@ -445,6 +454,232 @@ cases =
           ∷ "(abandon 64)" ⇒ "(abandon 64 (refused 3))"
           ∷ "(abandon 63)" ⇒ "(abandon 63 (free 2))"
           ∷ "(trim)" ⇒ "(trim (dropped 1))"
+          ∷ []);
+    }
+    ∷ record {
+      name = "5 again: the later requester looks, and reads its own value, after each of the earlier one's steps";
+      exchanges =
+          ("(set-up 4 1 0)" ⇒ "(set-up (free 4))"
+          ∷ "(begin 0)" ⇒ "(begin 0 (number 1) (snapshot 0))"
+          ∷ "(begin 1)" ⇒ "(begin 1 (number 2) (snapshot 0))"
+          ∷ "(write 0 7 000102030405060708090a0b0c0d0e0f)" ⇒ "(write 0 7 (free 3))"
+          ∷ "(write 1 7 ffeeddccbbaa99887766554433221100)" ⇒ "(write 1 7 (free 2))"
+          ∷ [])
+          ++ stages 0 1 3
+          ++ stages 1 1 4
+          ++ flatten (map (λ (g : ℕ). stages 0 g 1 ++ stillWaits) (4 ∷ 5 ∷ 6 ∷ 7 ∷ 8 ∷ 9 ∷ 10 ∷ 11 ∷ 12 ∷ 13 ∷ []))
+          ++ ("(advance 0)" ⇒ "(advance 0 (done 1))"
+          ∷ "(read 1 7)" ⇒ "(read 1 7 (value ffeeddccbbaa99887766554433221100))"
+          ∷ "(advance 1)" ⇒ "(advance 1 (stage 5))"
+          ∷ "(advance 1)" ⇒ "(advance 1 (conflict 1))"
+          ∷ "(read 1 7)" ⇒ "(read 1 7 (refused 6))"
+          ∷ "(begin 1)" ⇒ "(begin 1 (number 3) (snapshot 1))"
+          ∷ "(read 1 7)" ⇒ "(read 1 7 (value 000102030405060708090a0b0c0d0e0f))"
+          ∷ []);
+    }
+    ∷ record {
+      name = "9: the last W";
+      exchanges =
+          ("(set-up 2 4294967295 0)" ⇒ "(set-up (free 2))"
+          ∷ "(begin 0)" ⇒ "(begin 0 (number 4294967295) (snapshot 0))"
+          ∷ "(begin 1)" ⇒ "(begin 1 (refused 8))"
+          ∷ "(begin 0)" ⇒ "(begin 0 (refused 5))"
+          ∷ "(abandon 0)" ⇒ "(abandon 0 (free 2))"
+          ∷ "(begin 0)" ⇒ "(begin 0 (refused 8))"
+          ∷ []);
+    }
+    ∷ record {
+      name = "the commit queue: all rows are listed, a number is noted at 8, and the queue is left at 12";
+      exchanges =
+          -- a cell each: client 2 is at stage 6, not in the commit queue, when client 0 makes its list; client 1 is, without a number
+          ("(set-up 4 1 0)" ⇒ "(set-up (free 4))"
+          ∷ "(begin 0)" ⇒ "(begin 0 (number 1) (snapshot 0))"
+          ∷ "(begin 1)" ⇒ "(begin 1 (number 2) (snapshot 0))"
+          ∷ "(begin 2)" ⇒ "(begin 2 (number 3) (snapshot 0))"
+          ∷ "(write 0 7 000102030405060708090a0b0c0d0e0f)" ⇒ "(write 0 7 (free 3))"
+          ∷ "(write 1 8 000102030405060708090a0b0c0d0e0f)" ⇒ "(write 1 8 (free 2))"
+          ∷ "(write 2 9 000102030405060708090a0b0c0d0e0f)" ⇒ "(write 2 9 (free 1))"
+          ∷ [])
+          ++ stages 2 1 6
+          ++ stages 1 1 7
+          ++ stages 0 1 10
+          ++ ("(advance 0)" ⇒ "(advance 0 (waiting 1))"
+          -- client 1 takes number 2, and has not noted it; then it has
+          ∷ "(advance 1)" ⇒ "(advance 1 (stage 8))"
+          ∷ "(advance 0)" ⇒ "(advance 0 (waiting 1))"
+          ∷ "(advance 1)" ⇒ "(advance 1 (stage 9))"
+          ∷ "(advance 0)" ⇒ "(advance 0 (stage 11))"
+          ∷ "(advance 0)" ⇒ "(advance 0 (stage 12))"
+          -- client 2 takes number 3, and waits for both others: client 0 is at stage 12
+          ∷ [])
+          ++ stages 2 7 4
+          ++ ("(advance 2)" ⇒ "(advance 2 (waiting 2))"
+          -- so does client 1, which lists both others, strikes client 2, and waits for client 0 until that is at stage 13
+          ∷ "(advance 1)" ⇒ "(advance 1 (stage 10))"
+          ∷ "(advance 1)" ⇒ "(advance 1 (waiting 1))"
+          ∷ "(advance 0)" ⇒ "(advance 0 (stage 13))"
+          ∷ "(advance 2)" ⇒ "(advance 2 (waiting 1))"
+          ∷ "(advance 1)" ⇒ "(advance 1 (stage 11))"
+          -- client 1 commits under 2, and client 2 still waits until it has left the queue
+          ∷ "(advance 1)" ⇒ "(advance 1 (stage 12))"
+          ∷ "(advance 2)" ⇒ "(advance 2 (waiting 1))"
+          ∷ "(advance 1)" ⇒ "(advance 1 (stage 13))"
+          ∷ "(advance 2)" ⇒ "(advance 2 (stage 11))"
+          -- client 3, come later, does not list clients 0 and 1, which are at stage 13
+          ∷ "(begin 3)" ⇒ "(begin 3 (number 4) (snapshot 2))"
+          ∷ "(write 3 10 000102030405060708090a0b0c0d0e0f)" ⇒ "(write 3 10 (free 0))"
+          ∷ [])
+          ++ stages 2 12 2
+          ++ stages 3 1 13
+          ++ ("(advance 3)" ⇒ "(advance 3 (done 4))"
+          ∷ "(advance 2)" ⇒ "(advance 2 (done 3))"
+          ∷ "(advance 1)" ⇒ "(advance 1 (done 2))"
+          ∷ "(advance 0)" ⇒ "(advance 0 (done 1))"
+          ∷ []);
+    }
+    ∷ record {
+      name = "the commit queue's lists name transactions: a client that leaves and comes again is not waited for";
+      exchanges =
+          ("(set-up 4 1 0)" ⇒ "(set-up (free 4))"
+          ∷ "(begin 0)" ⇒ "(begin 0 (number 1) (snapshot 0))"
+          ∷ "(begin 1)" ⇒ "(begin 1 (number 2) (snapshot 0))"
+          ∷ "(write 0 7 000102030405060708090a0b0c0d0e0f)" ⇒ "(write 0 7 (free 3))"
+          ∷ "(write 1 8 ffeeddccbbaa99887766554433221100)" ⇒ "(write 1 8 (free 2))"
+          ∷ [])
+          ++ stages 1 1 7
+          ++ stages 0 1 10
+          ++ ("(advance 0)" ⇒ "(advance 0 (waiting 1))"
+          ∷ "(abandon 1)" ⇒ "(abandon 1 (free 3))"
+          ∷ "(begin 1)" ⇒ "(begin 1 (number 3) (snapshot 0))"
+          ∷ "(write 1 8 ffeeddccbbaa99887766554433221100)" ⇒ "(write 1 8 (free 2))"
+          ∷ [])
+          ++ stages 1 1 7
+          ++ stages 0 11 3
+          ++ ("(advance 0)" ⇒ "(advance 0 (done 1))"
+          ∷ []);
+    }
+    ∷ record {
+      name = "an Abandon at stage 11";
+      exchanges =
+          -- client 0 has commit number 1; client 1 waits for it in the commit queue, client 2, of the same cell, in the request queue
+          ("(set-up 4 1 0)" ⇒ "(set-up (free 4))"
+          ∷ "(begin 0)" ⇒ "(begin 0 (number 1) (snapshot 0))"
+          ∷ "(begin 1)" ⇒ "(begin 1 (number 2) (snapshot 0))"
+          ∷ "(begin 2)" ⇒ "(begin 2 (number 3) (snapshot 0))"
+          ∷ "(write 0 7 000102030405060708090a0b0c0d0e0f)" ⇒ "(write 0 7 (free 3))"
+          ∷ "(write 1 8 000102030405060708090a0b0c0d0e0f)" ⇒ "(write 1 8 (free 2))"
+          ∷ "(write 2 7 ffeeddccbbaa99887766554433221100)" ⇒ "(write 2 7 (free 1))"
+          ∷ [])
+          ++ stages 0 1 11
+          ++ stages 1 1 10
+          ++ stages 2 1 4
+          ++ ("(advance 1)" ⇒ "(advance 1 (waiting 1))"
+          ∷ "(advance 2)" ⇒ "(advance 2 (waiting 1))"
+          ∷ "(abandon 0)" ⇒ "(abandon 0 (free 2))"
+          ∷ "(abandon 0)" ⇒ "(abandon 0 (refused 6))"
+          -- nothing is committed, nobody waits for it, and its numbers are not given again
+          ∷ "(begin 0)" ⇒ "(begin 0 (number 4) (snapshot 0))"
+          ∷ "(read 0 7)" ⇒ "(read 0 7 (unwritten))"
+          ∷ [])
+          ++ stages 1 11 3
+          ++ ("(advance 1)" ⇒ "(advance 1 (done 2))"
+          ∷ [])
+          ++ stages 2 5 7
+          -- at stages 12 and 13 it gets 7
+          ++ ("(advance 2)" ⇒ "(advance 2 (stage 12))"
+          ∷ "(abandon 2)" ⇒ "(abandon 2 (refused 7))"
+          ∷ "(advance 2)" ⇒ "(advance 2 (stage 13))"
+          ∷ "(abandon 2)" ⇒ "(abandon 2 (refused 7))"
+          ∷ "(advance 2)" ⇒ "(advance 2 (done 3))"
+          ∷ "(read 0 7)" ⇒ "(read 0 7 (unwritten))"
+          ∷ "(free)" ⇒ "(free (free 2))"
+          ∷ []);
+    }
+    ∷ record {
+      name = "before a set-up, and set-ups that are refused";
+      exchanges =
+          -- "Before a set-up the store has 0 rows"
+          ("(begin 0)" ⇒ "(begin 0 (refused 2))"
+          ∷ "(read 64 1024)" ⇒ "(read 64 1024 (refused 2))"
+          ∷ "(write 0 7 000102030405060708090a0b0c0d0e0f)" ⇒ "(write 0 7 (refused 2))"
+          ∷ "(advance 0)" ⇒ "(advance 0 (refused 2))"
+          ∷ "(abandon 0)" ⇒ "(abandon 0 (refused 2))"
+          ∷ "(trim)" ⇒ "(trim (refused 2))"
+          ∷ "(free)" ⇒ "(free (refused 2))"
+          -- a refused one leaves it so
+          ∷ "(set-up 0 1 0)" ⇒ "(set-up (refused 1))"
+          ∷ "(set-up 2 0 0)" ⇒ "(set-up (refused 1))"
+          ∷ "(free)" ⇒ "(free (refused 2))"
+          -- "the limit is above 64"; "a refused set-up keeps the old one, and rows outside 1 to 1,024 print (set-up (refused 1))"
+          ∷ "(set-up 2 5 64)" ⇒ "(set-up (free 2))"
+          ∷ "(begin 0)" ⇒ "(begin 0 (number 5) (snapshot 0))"
+          ∷ "(write 0 7 000102030405060708090a0b0c0d0e0f)" ⇒ "(write 0 7 (free 1))"
+          ∷ "(set-up 1 1 65)" ⇒ "(set-up (refused 1))"
+          ∷ "(set-up 0 1 0)" ⇒ "(set-up (refused 1))"
+          ∷ "(set-up 1025 1 0)" ⇒ "(set-up (refused 1))"
+          ∷ "(set-up 4294967295 1 0)" ⇒ "(set-up (refused 1))"
+          ∷ "(set-up 1 0 0)" ⇒ "(set-up (refused 1))"
+          ∷ "(read 0 7)" ⇒ "(read 0 7 (value 000102030405060708090a0b0c0d0e0f))"
+          ∷ "(begin 1)" ⇒ "(begin 1 (number 6) (snapshot 0))"
+          ∷ "(free)" ⇒ "(free (free 1))"
+          -- an accepted one begins anew
+          ∷ "(set-up 3 1 0)" ⇒ "(set-up (free 3))"
+          ∷ "(read 0 7)" ⇒ "(read 0 7 (refused 6))"
+          ∷ "(begin 0)" ⇒ "(begin 0 (number 1) (snapshot 0))"
+          ∷ "(read 0 7)" ⇒ "(read 0 7 (unwritten))"
+          ∷ []);
+    }
+    ∷ record {
+      name = "lines that are no form";
+      exchanges =
+          ("(set-up 2 1 0)" ⇒ "(set-up (free 2))"
+          ∷ "(begin 0)" ⇒ "(begin 0 (number 1) (snapshot 0))"
+          -- "decimal without leading zeros up to 4,294,967,295"
+          ∷ "(begin 01)" ⇒ "(line (refused 13))"
+          ∷ "(begin 00)" ⇒ "(line (refused 13))"
+          ∷ "(set-up 02 1 0)" ⇒ "(line (refused 13))"
+          ∷ "(set-up 2 01 0)" ⇒ "(line (refused 13))"
+          ∷ "(set-up 2 1 00)" ⇒ "(line (refused 13))"
+          ∷ "(read 0 007)" ⇒ "(line (refused 13))"
+          ∷ "(write 0 07 000102030405060708090a0b0c0d0e0f)" ⇒ "(line (refused 13))"
+          ∷ "(begin 4294967295)" ⇒ "(begin 4294967295 (refused 3))"
+          ∷ "(begin 4294967296)" ⇒ "(line (refused 13))"
+          ∷ "(begin -1)" ⇒ "(line (refused 13))"
+          ∷ "(begin a)" ⇒ "(line (refused 13))"
+          ∷ "(begin )" ⇒ "(line (refused 13))"
+          -- "values as 32 lower-case hexadecimal digits": an upper-case one, one that is none, 31 and 33 of them
+          ∷ "(write 0 7 000102030405060708090A0b0c0d0e0f)" ⇒ "(line (refused 13))"
+          ∷ "(write 0 7 000102030405060708090a0b0c0d0e0F)" ⇒ "(line (refused 13))"
+          ∷ "(write 0 7 g00102030405060708090a0b0c0d0e0f)" ⇒ "(line (refused 13))"
+          ∷ "(write 0 7 000102030405060708090a0b0c0d0e0)" ⇒ "(line (refused 13))"
+          ∷ "(write 0 7 000102030405060708090a0b0c0d0e0f0)" ⇒ "(line (refused 13))"
+          ∷ "(write 0 7)" ⇒ "(line (refused 13))"
+          -- "single spaces", and nothing in front or behind
+          ∷ "(begin  1)" ⇒ "(line (refused 13))"
+          ∷ "(read 0  7)" ⇒ "(line (refused 13))"
+          ∷ "(read 0,7)" ⇒ "(line (refused 13))"
+          ∷ "(read 0 7 )" ⇒ "(line (refused 13))"
+          ∷ " (begin 1)" ⇒ "(line (refused 13))"
+          ∷ "(begin 1) " ⇒ "(line (refused 13))"
+          ∷ "(begin 1))" ⇒ "(line (refused 13))"
+          ∷ "(begin 1)(begin 1)" ⇒ "(line (refused 13))"
+          ∷ "(begin 1" ⇒ "(line (refused 13))"
+          ∷ "(begin 1]" ⇒ "(line (refused 13))"
+          ∷ "(free) " ⇒ "(line (refused 13))"
+          ∷ "(trim)x" ⇒ "(line (refused 13))"
+          ∷ "(free 0)" ⇒ "(line (refused 13))"
+          ∷ "(read 0)" ⇒ "(line (refused 13))"
+          ∷ "(read 0 7 7)" ⇒ "(line (refused 13))"
+          ∷ "(set-up 2 1)" ⇒ "(line (refused 13))"
+          ∷ "(Begin 1)" ⇒ "(line (refused 13))"
+          ∷ "begin 1" ⇒ "(line (refused 13))"
+          -- "an empty one or one over 80 bytes": one of 81; the longest form has 62
+          ∷ "" ⇒ "(line (refused 13))"
+          ∷ "(free)..........................................................................." ⇒ "(line (refused 13))"
+          ∷ "(write 4294967295 4294967295 000102030405060708090a0b0c0d0e0f)" ⇒ "(write 4294967295 4294967295 (refused 3))"
+          -- none of them has changed anything
+          ∷ "(read 0 7)" ⇒ "(read 0 7 (unwritten))"
+          ∷ "(begin 1)" ⇒ "(begin 1 (number 2) (snapshot 0))"
           ∷ []);
     }
     ∷ []

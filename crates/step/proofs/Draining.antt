@@ -10,7 +10,7 @@ use lib.ListN.{length, drop}
 use Rattle.spec.specs.Bytes.{Memory}
 use Rattle.session.specs.Inner.{newlineFrom, linesOf, restOf, Fed, Emptied}
 use Rattle.spec.specs.Session.{memoryAfter}
-use Rattle.session.proofs.Chunks.{newline-end, none-left, after-nil}
+use Rattle.session.proofs.Chunks.{newline-end, no-line-left, after-nil}
 
 -- where a write failed, nothing is promised of one that is fine
 pub failed : {A : Type 0} → false ≡ true → A
@@ -22,7 +22,7 @@ module _ (s : List ℕ) (w₀ w : Memory) (from : ℕ)
     (state : memoryAfter w (linesOf (drop from s)) ≡ memoryAfter w₀ (linesOf s)) (rest : restOf (drop from s) ≡ restOf s) where
   no-newline : from ≤ length s → newlineFrom from (drop from s) ≡ length s → Emptied s w₀ w from
   no-newline h e =
-      let n = none-left s from h e in
+      let n = no-line-left s from h e in
       record { memory = sym (after-nil w) ∙ ap (memoryAfter w) (sym (n .0)) ∙ state; begun = sym (n .1) ∙ rest }
 
   -- at the end of the input
