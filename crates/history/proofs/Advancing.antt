@@ -58,7 +58,9 @@ not-both g h l = omega arith
 
 between : (g : ℕ) → g ≤ 13 → g ≢ 0 → g ≢ 1 → g ≢ 2 → g ≢ 3 → g ≢ 4 → g ≢ 5 → g ≢ 6 → g ≢ 7 → g ≢ 8 → g ≢ 9 → g ≢ 10 → g ≢ 11 → g ≢ 12 → g ≢ 13 → ⊥
 between g l n0 n1 n2 n3 n4 n5 n6 n7 n8 n9 n10 n11 n12 n13 =
-    not-both g l (next 13 g (next 12 g (next 11 g (next 10 g (next 9 g (next 8 g (next 7 g (next 6 g (next 5 g (next 4 g (next 3 g (next 2 g (next 1 g (next 0 g (omega arith) n0) n1) n2) n3) n4) n5) n6) n7) n8) n9) n10) n11) n12) n13)
+    not-both g l (next 13 g (next 12 g (next 11 g (next 10 g (next 9 g
+    (next 8 g (next 7 g (next 6 g (next 5 g (next 4 g (next 3 g (next 2 g (next 1 g (next 0 g (omega arith) n0) n1) n2) n3) n4) n5) n6)
+    n7) n8) n9) n10) n11) n12) n13)
 
 commit-row : (n t : ℕ) → n < 4294967296 → t < 4294967296 → commitRowOf (commitRow n t) ≡ record { number = n; tag = t }
 unfolding commitRowOf
@@ -78,20 +80,26 @@ module _ (i : Image) (ready : Ready i) (k : ℕ) (h : k < clients) where
   goOn-view g = rw (stage-put (i .clients) (ready .fine .tidy) k h g)
 
   -- 1 and 7: numbers taken
-  request-view : observedOutcome (Advance k) (st.goOn 2 k (withRequested (withClients i (setRequest k (i .counters .requested + 1) (i .clients))) (i .counters .requested + 1))) ≡ m.takeR (view i) k
+  request-view : observedOutcome (Advance k) (st.goOn 2 k (withRequested
+      (withClients i (setRequest k (i .counters .requested + 1) (i .clients))) (i .counters .requested + 1))) ≡ m.takeR (view i) k
   unfolding st.goOn m.takeR view
   request-view = rw (request-put (i .clients) (ready .fine .tidy) k h 2 (i .counters .requested + 1), add-one (i .counters .requested))
 
-  number-view : observedOutcome (Advance k) (st.goOn 8 k (withTaken (withClients i (setCommit k (i .counters .taken + 1) (i .clients))) (i .counters .taken + 1))) ≡ m.takeC (view i) k
+  number-view : observedOutcome (Advance k) (st.goOn 8 k (withTaken (withClients i (setCommit k (i .counters .taken + 1) (i .clients)))
+      (i .counters .taken + 1))) ≡ m.takeC (view i) k
   unfolding st.goOn m.takeC view
   number-view = rw (commit-put (i .clients) (ready .fine .tidy) k h 8 (i .counters .taken + 1), add-one (i .counters .taken))
 
   -- 3 and 9: the lists
-  put-requests : (g w : ℕ) → observedOutcome (Advance k) (st.goOn g k (withClients i (setRequestWaits k w (i .clients)))) ≡ out (m.move (view i) k (withRwait (view i .cl k) g (member w))) (Answered (Stage g))
+  put-requests : (g w : ℕ)
+      → observedOutcome (Advance k) (st.goOn g k (withClients i (setRequestWaits k w (i .clients)))) ≡ out
+      (m.move (view i) k (withRwait (view i .cl k) g (member w))) (Answered (Stage g))
   unfolding st.goOn view
   put-requests g w = rw (requestWaits-put (i .clients) (ready .fine .tidy) k h g w)
 
-  put-commits : (g w : ℕ) → observedOutcome (Advance k) (st.goOn g k (withClients i (setCommitWaits k w (i .clients)))) ≡ out (m.move (view i) k (withCwait (view i .cl k) g (member w))) (Answered (Stage g))
+  put-commits : (g w : ℕ)
+      → observedOutcome (Advance k) (st.goOn g k (withClients i (setCommitWaits k w (i .clients)))) ≡ out
+      (m.move (view i) k (withCwait (view i .cl k) g (member w))) (Answered (Stage g))
   unfolding st.goOn view
   put-commits g w = rw (commitWaits-put (i .clients) (ready .fine .tidy) k h g w)
 
@@ -108,7 +116,8 @@ module _ (i : Image) (ready : Ready i) (k : ℕ) (h : k < clients) where
 
   list-requests : observedOutcome (Advance k) (st.listRequests k i) ≡ m.listR (view i) k
   unfolding st.listRequests m.listR
-  list-requests = put-requests 4 (collect (λ j. member (others requestQueue k i) j && shares (i .dataRows) (numberOf i k) (numberOf i j)) clients) ∙ rw listed-requests
+  list-requests = put-requests 4 (collect (λ j. member (others requestQueue k i) j && shares (i .dataRows) (numberOf i k) (numberOf i j))
+      clients) ∙ rw listed-requests
 
   list-commits : observedOutcome (Advance k) (st.listCommits k i) ≡ m.listC (view i) k
   unfolding st.listCommits m.listC
@@ -124,53 +133,78 @@ module _ (i : Image) (ready : Ready i) (k : ℕ) (h : k < clients) where
   left-requests-view : member left-requests ≡ look (m.rph (view i)) (λ b. view i .cl b .request) k (view i .cl k .rwait)
   unfolding view clientsAs clientOf
   left-requests-view =
-      look-view requestQueue rphase phased-requests (λ j. stageOf i j) (λ j. requestOf i j) (ready .fine .tidy .stage .each) k (getD (i .clients .requestWaits) k 0) (ready .fine .tidy .requestWaits .each k)
+      look-view requestQueue rphase phased-requests (λ j. stageOf i j) (λ j. requestOf i j) (ready .fine .tidy .stage .each) k
+      (getD (i .clients .requestWaits) k 0) (ready .fine .tidy .requestWaits .each k)
 
   left-commits-view : member left-commits ≡ look (m.cph (view i)) (λ b. view i .cl b .commit) k (view i .cl k .cwait)
   unfolding view clientsAs clientOf
   left-commits-view =
-      look-view commitQueue cphase phased-commits (λ j. stageOf i j) (λ j. commitNumberOf i j) (ready .fine .tidy .stage .each) k (getD (i .clients .commitWaits) k 0) (ready .fine .tidy .commitWaits .each k)
+      look-view commitQueue cphase phased-commits (λ j. stageOf i j) (λ j. commitNumberOf i j) (ready .fine .tidy .stage .each) k
+      (getD (i .clients .commitWaits) k 0) (ready .fine .tidy .commitWaits .each k)
 
   few-requests : left-requests < 2 ^ clients
-  few-requests = omega (arith, strike-le (λ j. struck requestQueue (requestOf i k) (stageOf i j) (requestOf i j)) (getD (i .clients .requestWaits) k 0) clients, ready .fine .tidy .requestWaits .each k)
+  few-requests = omega (
+    arith,
+    strike-le (λ j. struck requestQueue (requestOf i k) (stageOf i j) (requestOf i j))
+        (getD (i .clients .requestWaits) k 0) clients,
+    ready .fine .tidy .requestWaits .each k,
+  )
 
   few-commits : left-commits < 2 ^ clients
-  few-commits = omega (arith, strike-le (λ j. struck commitQueue (commitNumberOf i k) (stageOf i j) (commitNumberOf i j)) (getD (i .clients .commitWaits) k 0) clients, ready .fine .tidy .commitWaits .each k)
+  few-commits = omega (
+    arith,
+    strike-le (λ j. struck commitQueue (commitNumberOf i k) (stageOf i j) (commitNumberOf i j))
+        (getD (i .clients .commitWaits) k 0) clients,
+    ready .fine .tidy .commitWaits .each k,
+  )
 
   wait-requests : (w n : ℕ) → stageOf i k ≡ 4
-      → observedOutcome (Advance k) (replies (withClients i (setRequestWaits k w (i .clients))) (Waiting n)) ≡ out (m.move (view i) k (withRwait (view i .cl k) 4 (member w))) (Answered (Waiting n))
+      → observedOutcome (Advance k) (replies (withClients i (setRequestWaits k w (i .clients))) (Waiting n)) ≡ out
+      (m.move (view i) k (withRwait (view i .cl k) 4 (member w))) (Answered (Waiting n))
   unfolding view
-  wait-requests w n e = rw (ap clientsAs (waits-put (setRequestWaits k w (i .clients)) k 4 e) ∙ requestWaits-put (i .clients) (ready .fine .tidy) k h 4 w)
+  wait-requests w n e = rw (ap clientsAs (waits-put (setRequestWaits k w (i .clients)) k 4 e) ∙ requestWaits-put (i .clients)
+      (ready .fine .tidy) k h 4 w)
 
   wait-commits : (w n : ℕ) → stageOf i k ≡ 10
-      → observedOutcome (Advance k) (replies (withClients i (setCommitWaits k w (i .clients))) (Waiting n)) ≡ out (m.move (view i) k (withCwait (view i .cl k) 10 (member w))) (Answered (Waiting n))
+      → observedOutcome (Advance k) (replies (withClients i (setCommitWaits k w (i .clients))) (Waiting n)) ≡ out
+      (m.move (view i) k (withCwait (view i .cl k) 10 (member w))) (Answered (Waiting n))
   unfolding view
-  wait-commits w n e = rw (ap clientsAs (waits-put (setCommitWaits k w (i .clients)) k 10 e) ∙ commitWaits-put (i .clients) (ready .fine .tidy) k h 10 w)
+  wait-commits w n e = rw (ap clientsAs (waits-put (setCommitWaits k w (i .clients)) k 10 e) ∙ commitWaits-put (i .clients)
+      (ready .fine .tidy) k h 10 w)
 
-  looked-requests : (w : ℕ) → w < 2 ^ clients → stageOf i k ≡ 4 → observedOutcome (Advance k) (st.looked 5 k w (withClients i (setRequestWaits k w (i .clients)))) ≡ m.lookR (view i) k (member w)
+  looked-requests : (w : ℕ) → w < 2 ^ clients → stageOf i k ≡ 4
+      → observedOutcome (Advance k) (st.looked 5 k w (withClients i (setRequestWaits k w (i .clients)))) ≡ m.lookR (view i) k (member w)
   unfolding st.looked m.lookR
   looked-requests w l e =
       rw (count-view clients w) (by-cases (ℕ-discrete w 0)
       (λ p. rw (eq-eqb w 0 p) (put-requests 5 w ∙ sym (if-pos (ℕ-discrete (size clients w) 0) (ap (size clients) p ∙ size-zero clients) _ _)))
-      (λ n. rw (ne-eqb w 0 n) (wait-requests w (size clients w) e ∙ sym (if-neg (ℕ-discrete (size clients w) 0) (λ q. n (size-none clients w l q)) _ _))))
+      (λ n. rw (ne-eqb w 0 n) (wait-requests w (size clients w) e ∙ sym
+      (if-neg (ℕ-discrete (size clients w) 0) (λ q. n (size-none clients w l q)) _ _))))
 
-  looked-commits : (w : ℕ) → w < 2 ^ clients → stageOf i k ≡ 10 → observedOutcome (Advance k) (st.looked 11 k w (withClients i (setCommitWaits k w (i .clients)))) ≡ m.lookC (view i) k (member w)
+  looked-commits : (w : ℕ) → w < 2 ^ clients → stageOf i k ≡ 10
+      → observedOutcome (Advance k) (st.looked 11 k w (withClients i (setCommitWaits k w (i .clients)))) ≡ m.lookC (view i) k (member w)
   unfolding st.looked m.lookC
   looked-commits w l e =
       rw (count-view clients w) (by-cases (ℕ-discrete w 0)
       (λ p. rw (eq-eqb w 0 p) (put-commits 11 w ∙ sym (if-pos (ℕ-discrete (size clients w) 0) (ap (size clients) p ∙ size-zero clients) _ _)))
-      (λ n. rw (ne-eqb w 0 n) (wait-commits w (size clients w) e ∙ sym (if-neg (ℕ-discrete (size clients w) 0) (λ q. n (size-none clients w l q)) _ _))))
+      (λ n. rw (ne-eqb w 0 n) (wait-commits w (size clients w) e ∙ sym
+      (if-neg (ℕ-discrete (size clients w) 0) (λ q. n (size-none clients w l q)) _ _))))
 
-  look-requests : stageOf i k ≡ 4 → observedOutcome (Advance k) (st.lookRequests k i) ≡ m.lookR (view i) k (look (m.rph (view i)) (λ b. view i .cl b .request) k (view i .cl k .rwait))
+  look-requests : stageOf i k ≡ 4
+      → observedOutcome (Advance k) (st.lookRequests k i) ≡ m.lookR (view i) k
+      (look (m.rph (view i)) (λ b. view i .cl b .request) k (view i .cl k .rwait))
   unfolding st.lookRequests
   look-requests e = looked-requests left-requests few-requests e ∙ ap (m.lookR (view i) k) left-requests-view
 
-  look-commits : stageOf i k ≡ 10 → observedOutcome (Advance k) (st.lookCommits k i) ≡ m.lookC (view i) k (look (m.cph (view i)) (λ b. view i .cl b .commit) k (view i .cl k .cwait))
+  look-commits : stageOf i k ≡ 10
+      → observedOutcome (Advance k) (st.lookCommits k i) ≡ m.lookC (view i) k
+      (look (m.cph (view i)) (λ b. view i .cl b .commit) k (view i .cl k .cwait))
   unfolding st.lookCommits
   look-commits e = looked-commits left-commits few-commits e ∙ ap (m.lookC (view i) k) left-commits-view
 
   -- 5: the check
-  checked-view : (c : Number) (w : Option (ℕ × DRow)) → asNumber c ≡ numberIn w → observedOutcome (Advance k) (st.checked c k i) ≡ m.checkedₛ (view i) k w
+  checked-view : (c : Number) (w : Option (ℕ × DRow)) → asNumber c ≡ numberIn w
+      → observedOutcome (Advance k) (st.checked c k i) ≡ m.checkedₛ (view i) k w
   unfolding m.checkedₛ
   checked-view None none e = goOn-view 6
   checked-view None (some w) e = absurd (none-some refl e)
@@ -182,13 +216,15 @@ module _ (i : Image) (ready : Ready i) (k : ℕ) (h : k < clients) where
   unfolding view clientsAs clientOf
   found = check-view (i .dataRows) (i .commitRows) (numberOf i k) (snapshotOf i k)
 
-  checks : observedOutcome (Advance k) (st.check k i) ≡ m.checkedₛ (view i) k (m.smallestₛ (m.checkKey (view i .dat) (view i .comm) (view i .cl k .number) (view i .cl k .snapshot)) (view i .dat))
+  checks : observedOutcome (Advance k) (st.check k i) ≡ m.checkedₛ (view i) k
+      (m.smallestₛ (m.checkKey (view i .dat) (view i .comm) (view i .cl k .number) (view i .cl k .snapshot)) (view i .dat))
   unfolding st.check
   checks = checked-view (conflict (numberOf i k) (snapshotOf i k) (i .dataRows) (i .commitRows)) _ found
 
   -- 11: the committed row
   made-commit : stageOf i k ≡ 11
-      → observedOutcome (Advance k) (st.goOn 12 k (withLast (withRows i (i .dataRows) (i .commitRows ++ (commitRow (commitNumberOf i k) (numberOf i k) ∷ []))) (commitNumberOf i k))) ≡ m.committed (view i) k
+      → observedOutcome (Advance k) (st.goOn 12 k (withLast (withRows i (i .dataRows)
+      (i .commitRows ++ (commitRow (commitNumberOf i k) (numberOf i k) ∷ []))) (commitNumberOf i k))) ≡ m.committed (view i) k
   unfolding st.goOn m.committed view
   made-commit e =
       rw (
@@ -200,15 +236,18 @@ module _ (i : Image) (ready : Ready i) (k : ℕ) (h : k < clients) where
       )
 
   -- 12 and 13
-  leave-commits : observedOutcome (Advance k) (st.leaveCommits k i) ≡ out (m.withClientsₛ (view i) (putₛ k (atStageₛ (clearC k (view i .cl k)) 13) (clearC k) (view i .cl))) (Answered (Stage 13))
+  leave-commits : observedOutcome (Advance k) (st.leaveCommits k i) ≡ out
+      (m.withClientsₛ (view i) (putₛ k (atStageₛ (clearC k (view i .cl k)) 13) (clearC k) (view i .cl))) (Answered (Stage 13))
   unfolding st.leaveCommits st.goOn view
   leave-commits = rw (left-put (i .clients) (ready .fine .tidy) k h)
 
-  leave-requests : observedOutcome (Advance k) (st.leaveRequests k i) ≡ out (m.leave (view i) k (view i .dat)) (Answered (Done (view i .cl k .commit)))
+  leave-requests : observedOutcome (Advance k) (st.leaveRequests k i) ≡ out (m.leave (view i) k (view i .dat))
+      (Answered (Done (view i .cl k .commit)))
   unfolding st.leaveRequests st.finished view
   leave-requests = rw (closed-put (i .clients) (ready .fine .tidy) k h, commit-of (i .clients) k)
 
-  leave-nothing : observedOutcome (Advance k) (st.finished (snapshotOf i k) k i) ≡ out (m.leave (view i) k (view i .dat)) (Answered (Done (view i .cl k .snapshot)))
+  leave-nothing : observedOutcome (Advance k) (st.finished (snapshotOf i k) k i) ≡ out (m.leave (view i) k (view i .dat))
+      (Answered (Done (view i .cl k .snapshot)))
   unfolding st.finished view
   leave-nothing = rw (closed-put (i .clients) (ready .fine .tidy) k h, snapshot-of (i .clients) k)
 
@@ -228,25 +267,30 @@ module _ (i : Image) (ready : Ready i) (k : ℕ) (h : k < clients) where
     enters : stageOf i k ≡ 0 → Simulates i (Advance k) (st.enter k i)
     unfolding st.enter
     enters e =
-        simulates-if i (Advance k) (not (any (hasTag (numberOf i k)) (i .dataRows))) (λ n. simulates i (Advance k) _ leave-nothing (ends0 k h o (at e) (no-rows (not-true (any (hasTag (numberOf i k)) (i .dataRows)) n))))
+        simulates-if i (Advance k) (not (any (hasTag (numberOf i k)) (i .dataRows)))
+        (λ n. simulates i (Advance k) _ leave-nothing (ends0 k h o (at e)
+        (no-rows (not-true (any (hasTag (numberOf i k)) (i .dataRows)) n))))
         (λ n. simulates i (Advance k) _ (goOn-view 1) (at0 k h o (at e) (has-rows (not-false (any (hasTag (numberOf i k)) (i .dataRows)) n))))
 
     requested : stageOf i k ≡ 1 → Simulates i (Advance k) (st.takeRequest k i)
     unfolding st.takeRequest
     requested e =
-        simulates-if i (Advance k) (eqb (i .counters .requested) top) (λ t. absurd (omega (arith, eqb-true (i .counters .requested) top t, ready .request k h o e)))
+        simulates-if i (Advance k) (eqb (i .counters .requested) top)
+        (λ t. absurd (omega (arith, eqb-true (i .counters .requested) top t, ready .request k h o e)))
         (λ _. simulates i (Advance k) _ request-view (at1 k h o (at e)))
 
     taken : stageOf i k ≡ 7 → Simulates i (Advance k) (st.takeCommit k i)
     unfolding st.takeCommit
     taken e =
-        simulates-if i (Advance k) (eqb (i .counters .taken) top) (λ t. absurd (omega (arith, eqb-true (i .counters .taken) top t, ready .commit k h o e)))
+        simulates-if i (Advance k) (eqb (i .counters .taken) top)
+        (λ t. absurd (omega (arith, eqb-true (i .counters .taken) top t, ready .commit k h o e)))
         (λ _. simulates i (Advance k) _ number-view (at7 k h o (at e)))
 
     committed : stageOf i k ≡ 11 → Simulates i (Advance k) (st.addCommit k i)
     unfolding st.addCommit
     committed e =
-        simulates-if i (Advance k) (leb (i .rows) (length (i .commitRows))) (λ t. absurd (omega (arith, leb-true (i .rows) (length (i .commitRows)) t, ready .room k o e)))
+        simulates-if i (Advance k) (leb (i .rows) (length (i .commitRows)))
+        (λ t. absurd (omega (arith, leb-true (i .rows) (length (i .commitRows)) t, ready .room k o e)))
         (λ _. simulates i (Advance k) _ (made-commit e) (at11 k h o (at e)))
 
     step-does : (g : ℕ) → stageOf i k ≡ g → g ≤ 13 → Simulates i (Advance k) (getD steps g noStep k i)

@@ -78,7 +78,8 @@ module _ {n : ℕ} where
   andThen j k m e s g a f = record { at = λ rs l o h. go j k s rs (l ∙ e) g o h (a .at) f }
 
   -- what follows at once
-  pub so : {X Y : Image → Type 0} → Stable n Y → (k : ℕ) (s : Image) → Grown n s → Following n k X s → ((t : Image) → Grown n t → X t → Y t) → Following n k Y s
+  pub so : {X Y : Image → Type 0} → Stable n Y → (k : ℕ) (s : Image) → Grown n s → Following n k X s → ((t : Image) → Grown n t → X t → Y t)
+      → Following n k Y s
   so st k s g a f = andThen k 0 k (omega arith) s g a (λ t i x. stays st 0 t i (f t i x))
 
   pub later : {X : Image → Type 0} → Stable n X → (j m : ℕ) → j ≤ m → (s : Image) → Grown n s → Following n j X s → Following n m X s

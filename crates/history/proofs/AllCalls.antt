@@ -144,7 +144,8 @@ all-right {bounds} (q ∷ qs) w i p g =
           (subst (λ (x : Answer ℕ). Right bounds w (erase p) q a x) (sym (free-next i h q)) (right-now g q)),
       subst (λ (x : Answer (Observed q)). RightRun bounds (nextAfter q x w) (update q x (erase p)) (step q (encoded i) .memory) qs) (sym e)
           (subst (λ (x : Memory). RightRun bounds (nextAfter q a w) (update q a (erase p)) x qs) (sym (same-memory i h q))
-          (subst (λ (x : Table). RightRun bounds (nextAfter q a w) x (encoded j) qs) (sym (fed g q)) (all-right qs (nextAfter q a w) j (updateₚ p q a) (good-next g q)))),
+          (subst (λ (x : Table). RightRun bounds (nextAfter q a w) x (encoded j) qs) (sym (fed g q))
+          (all-right qs (nextAfter q a w) j (updateₚ p q a) (good-next g q)))),
     )
 
 start-numbers : (b : Bounds) (w : ℕ) → w ≤ top → Numbered (suc w) (m.fresh b w .W)
@@ -188,7 +189,8 @@ unfolding update
 refused-told q = refl
 
 pub refused-tells : (d c : List ℕ) (q : Call) → observed q (unused d c) ≡ Refused unfit
-refused-tells d c q = ap (λ (a : After (Result q)). observeAnswer q (rowsIn 24 (a .memory .store .used) (a .memory .dataBytes)) (a .answer)) (refused-call d c q)
+refused-tells d c q = ap (λ (a : After (Result q)). observeAnswer q (rowsIn 24 (a .memory .store .used) (a .memory .dataBytes)) (a .answer))
+    (refused-call d c q)
 
 refused-all : (n : Bounds) (w : ℕ) (d c : List ℕ) (qs : List Call) → RightRun n w blank (unused d c) qs
 refused-all n w d c [] = tt
@@ -197,7 +199,8 @@ refused-all n w d c (q ∷ qs) =
     let f = refused-tells d c q in (
       subst (λ (x : Answer (Observed q)). Right n w blank q x (step Free (step q (unused d c) .memory) .answer)) (sym f) (refused-right n w q _),
       subst (λ (x : Answer (Observed q)). RightRun n (nextAfter q x w) (update q x blank) (step q (unused d c) .memory) qs) (sym f)
-          (subst (λ (x : Memory). RightRun n (nextAfter q (Refused unfit) w) (update q (Refused unfit) blank) x qs) (sym (ap (λ (x : After (Result q)). x .memory) e))
+          (subst (λ (x : Memory). RightRun n (nextAfter q (Refused unfit) w) (update q (Refused unfit) blank) x qs)
+          (sym (ap (λ (x : After (Result q)). x .memory) e))
           (subst (λ (x : ℕ). RightRun n x (update q (Refused unfit) blank) (unused d c) qs) (sym (refused-number q w))
           (subst (λ (x : Table). RightRun n w x (unused d c) qs) (sym (refused-told q)) (refused-all n w d c qs)))),
     )
@@ -252,7 +255,8 @@ fit-all (q ∷ qs) w i p g = (
   subst (λ (x : Memory). AllFit x qs) (sym (same-memory i (g .fine) q)) (fit-all qs _ (perform q i .image) _ (good-next g q)),
 )
 
-pub all-fit : (d c : List ℕ) (w l : ℕ) → w ≤ 4294967295 → accepts (length d) (length c) w l ≡ true → (qs : List Call) → AllFit (setUp d c w l .memory) qs
+pub all-fit : (d c : List ℕ) (w l : ℕ) → w ≤ 4294967295 → accepts (length d) (length c) w l ≡ true → (qs : List Call)
+    → AllFit (setUp d c w l .memory) qs
 all-fit d c w l h e qs =
     subst (λ (m : Memory). AllFit m qs) (sym (set-up-whole d c w l e))
     (fit-all qs (suc (w - 1)) (firstImage d w l) own.emptyₚ (first-good d c w l h e))

@@ -45,7 +45,8 @@ unfolding lateness
 late-step j k e n = omega arith
 
 -- Those who wrote a cell of both are found by the rows.
-sharing : (d : List DRow) (t u : ℕ) → Sharesₚ (λ x. findₛ t x d) (λ x. findₛ u x d) → (r : DRow) × In r d × ((r .tag ≡ t) × IsSome (findₛ u (r .cell) d))
+sharing : (d : List DRow) (t u : ℕ) → Sharesₚ (λ x. findₛ t x d) (λ x. findₛ u x d)
+    → (r : DRow) × In r d × ((r .tag ≡ t) × IsSome (findₛ u (r .cell) d))
 unfolding findₛ
 sharing d t u h =
     let w = is-some (findₛ t (h .0) d) (h .1) in
@@ -68,7 +69,8 @@ module _ {bounds : Bounds} {s : State} {p : Plain} (inv : Inv bounds s p) (a : �
     goes rq cq = (
       right-stage (c .stage) e most not6 not12 wrote,
       rw (onStage-moved p a (c .stage) not8 not12)
-          (moves inv a c f tame R (s .C) (p .count) (p .cl a .commit) (inv .counted) (setP a (restaged (p .cl a) (c .stage) (p .cl a .commit)) (p .cl))
+          (moves inv a c f tame R (s .C) (p .count) (p .cl a .commit) (inv .counted)
+          (setP a (restaged (p .cl a) (c .stage) (p .cl a .commit)) (p .cl))
           (setP-at a _ (p .cl)) (setP-off a _ (p .cl)) number snapshot (late-step (s .cl a .stage) (c .stage) e not12) isopen (omega arith) rq cq
           (λ h. inv .one a .numbered (omega arith) ∙ sym commit)
           (λ h h′. omega (arith, inv .one a .ahead (omega arith) (omega arith)))
@@ -79,11 +81,13 @@ module _ {bounds : Bounds} {s : State} {p : Plain} (inv : Inv bounds s p) (a : �
   -- Client a becomes c; the rows stay.
   module _ (c : Client) (f : Client → Client) (tame : Tame a f) (number : c .number ≡ s .cl a .number) (R C : ℕ) (hR : s .R ≤ R) (hC : s .C ≤ C) where
     oR : Others a (rph s) (λ b. s .cl b .request) (λ b. s .cl b .rwait) (s .R) (Rel (s .dat) (s .cl))
-        (λ b. rphase (putₛ a c f (s .cl) b .stage)) (λ b. putₛ a c f (s .cl) b .request) (λ b. putₛ a c f (s .cl) b .rwait) R (Rel (s .dat) (putₛ a c f (s .cl)))
+        (λ b. rphase (putₛ a c f (s .cl) b .stage)) (λ b. putₛ a c f (s .cl) b .request) (λ b. putₛ a c f (s .cl) b .rwait) R
+        (Rel (s .dat) (putₛ a c f (s .cl)))
     oR = others-R a c f tame (s .cl) (s .dat) (s .dat) hR (λ b _ x h. rw (numbers b) at h)
       where
         numbers : (b : ℕ) → putₛ a c f (s .cl) b .number ≡ s .cl b .number
-        numbers = each a (λ b. putₛ a c f (s .cl) b .number ≡ s .cl b .number) (rw (put-at a c f (s .cl)) number) (off a c f tame (s .cl) (λ d. d .number) (tame .number))
+        numbers = each a (λ b. putₛ a c f (s .cl) b .number ≡ s .cl b .number) (rw (put-at a c f (s .cl)) number)
+            (off a c f tame (s .cl) (λ d. d .number) (tame .number))
 
     oC : Others a (cph s) (λ b. s .cl b .commit) (λ b. s .cl b .cwait) (s .C) Always
         (λ b. cphase (putₛ a c f (s .cl) b .stage)) (λ b. putₛ a c f (s .cl) b .commit) (λ b. putₛ a c f (s .cl) b .cwait) C Always
@@ -102,7 +106,8 @@ module _ {bounds : Bounds} {s : State} {p : Plain} (inv : Inv bounds s p) (a : �
     C-taken h e = taken a (inv .cq) oC (rw (put-at a c f (s .cl)) h) (rw (put-at a c f (s .cl)) e)
 
     module _ (fr : (d : Client) → f d .rwait ≡ d .rwait) (h : 2 ≤ rph s a) (e : c .request ≡ s .cl a .request) where
-      R-own : (rphase (c .stage) ≡ 4 → (b : ℕ) → b ≢ a → 2 ≤ rph s b → Rel (s .dat) (s .cl) b a → s .cl b .request < s .cl a .request → c .rwait b ≡ true)
+      R-own : (rphase (c .stage) ≡ 4 → (b : ℕ) → b ≢ a → 2 ≤ rph s b → Rel (s .dat) (s .cl) b a → s .cl b .request < s .cl a .request
+          → c .rwait b ≡ true)
           → (5 ≤ rphase (c .stage) → (b : ℕ) → b ≢ a → 2 ≤ rph s b → Rel (s .dat) (s .cl) b a → s .cl b .request < s .cl a .request → ⊥)
           → RQ (stepped s R C (putₛ a c f (s .cl)))
       R-own lists passes =
@@ -110,7 +115,8 @@ module _ {bounds : Bounds} {s : State} {p : Plain} (inv : Inv bounds s p) (a : �
           (rw (put-at a c f (s .cl)) lists) (rw (put-at a c f (s .cl)) passes)
 
       R-stay : rphase (c .stage) ≡ rph s a → c .rwait ≡ s .cl a .rwait → RQ (stepped s R C (putₛ a c f (s .cl)))
-      R-stay k w = R-own (λ k′ b n hb r l. ap (λ (w : ℕ → Bool). w b) w ∙ inv .rq .listed b a n hb (sym k ∙ k′) r l) (λ k′ b n hb r l. inv .rq .passed b a n hb (omega arith) r l)
+      R-stay k w = R-own (λ k′ b n hb r l. ap (λ (w : ℕ → Bool). w b) w ∙ inv .rq .listed b a n hb (sym k ∙ k′) r l)
+          (λ k′ b n hb r l. inv .rq .passed b a n hb (omega arith) r l)
 
     module _ (fc : (d : Client) → f d .cwait ≡ d .cwait) (h : 2 ≤ cph s a) (e : c .commit ≡ s .cl a .commit) where
       pub C-own : (cphase (c .stage) ≡ 4 → (b : ℕ) → b ≢ a → 2 ≤ cph s b → Always b a → s .cl b .commit < s .cl a .commit → c .cwait b ≡ true)
@@ -125,7 +131,8 @@ module _ {bounds : Bounds} {s : State} {p : Plain} (inv : Inv bounds s p) (a : �
   to k = atStageₛ (s .cl a) k
 
   module _ (k : ℕ) (e : k ≡ suc (s .cl a .stage)) (most : k ≤ 13) (n6 : k ≢ 6) (n8 : k ≢ 8) (n12 : k ≢ 12) (wrote : k ≡ 1 → Wroteₚ (p .cl a)) where
-    simply : RQ (stepped s (s .R) (s .C) (putₛ a (to k) same (s .cl))) → CQ (stepped s (s .R) (s .C) (putₛ a (to k) same (s .cl))) → Good bounds s p (Advance a) (step-to s a k)
+    simply : RQ (stepped s (s .R) (s .C) (putₛ a (to k) same (s .cl))) → CQ (stepped s (s .R) (s .C) (putₛ a (to k) same (s .cl)))
+        → Good bounds s p (Advance a) (step-to s a k)
     simply rq cq = goes (to k) same (tame-same a) (s .R) e refl refl refl most n8 n12 n6 wrote rq cq
 
   le : {x : ℕ} → x ≤ x
@@ -134,8 +141,11 @@ module _ {bounds : Bounds} {s : State} {p : Plain} (inv : Inv bounds s p) (a : �
   -- a row of an open client below stage 12 is one of its writes
   row-wrote : s .cl a .stage < 12 → HasRow (s .cl a .number) (s .dat) → Wroteₚ (p .cl a)
   unfolding lateness
-  row-wrote h r =
-      (r .0 .cell, rw (inv .tab .mine a isopen .held (omega arith) (r .0 .cell)) at (row-find (s .cl a .number) (r .0 .cell) (s .dat) (r .0) (r .1) (r .2) refl))
+  row-wrote h r = (
+    r .0 .cell,
+    rw (inv .tab .mine a isopen .held (omega arith) (r .0 .cell)) at
+        (row-find (s .cl a .number) (r .0 .cell) (s .dat) (r .0) (r .1) (r .2) refl),
+  )
 
   pub arm0 : s .cl a .stage ≡ 0 → HasRow (s .cl a .number) (s .dat) → Good bounds s p (Advance a) (step-to s a 1)
   unfolding rphase
@@ -145,7 +155,8 @@ module _ {bounds : Bounds} {s : State} {p : Plain} (inv : Inv bounds s p) (a : �
 
   pub arm1 : s .cl a .stage ≡ 1 → Good bounds s p (Advance a) (takeR s a)
   unfolding rphase takeR
-  arm1 e = goes c same (tame-same a) (suc (s .R)) (omega arith) refl refl refl (omega arith) (omega arith) (omega arith) (omega arith) (λ h. absurd (omega arith))
+  arm1 e = goes c same (tame-same a) (suc (s .R)) (omega arith) refl refl refl (omega arith) (omega arith) (omega arith) (omega arith)
+      (λ h. absurd (omega arith))
       (R-taken c same (tame-same a) refl (suc (s .R)) (s .C) (omega arith) le (omega arith) refl refl)
       (C-low c same (tame-same a) refl (suc (s .R)) (s .C) (omega arith) le (omega (arith, cph-in 2 (omega arith))))
     where
@@ -155,7 +166,8 @@ module _ {bounds : Bounds} {s : State} {p : Plain} (inv : Inv bounds s p) (a : �
   pub arm2 : s .cl a .stage ≡ 2 → Good bounds s p (Advance a) (step-to s a 3)
   unfolding rphase
   arm2 e = simply 3 (omega arith) (omega arith) (omega arith) (omega arith) (omega arith) (λ h. absurd (omega arith))
-      (R-own (to 3) same (tame-same a) refl (s .R) (s .C) le le (λ d. refl) (omega arith) refl (λ h. absurd (omega arith)) (λ h. absurd (omega arith)))
+      (R-own (to 3) same (tame-same a) refl (s .R) (s .C) le le (λ d. refl) (omega arith) refl (λ h. absurd (omega arith))
+      (λ h. absurd (omega arith)))
       (C-low (to 3) same (tame-same a) refl (s .R) (s .C) le le (omega (arith, cph-in 3 (omega arith))))
 
   open-below : (b : ℕ) → 1 ≤ s .cl b .stage → b < clients
@@ -163,9 +175,11 @@ module _ {bounds : Bounds} {s : State} {p : Plain} (inv : Inv bounds s p) (a : �
 
   pub arm3 : s .cl a .stage ≡ 3 → Good bounds s p (Advance a) (listR s a)
   unfolding rphase listR
-  arm3 e = goes c same (tame-same a) (s .R) (omega arith) refl refl refl (omega arith) (omega arith) (omega arith) (omega arith) (λ h. absurd (omega arith))
+  arm3 e = goes c same (tame-same a) (s .R) (omega arith) refl refl refl (omega arith) (omega arith) (omega arith) (omega arith)
+      (λ h. absurd (omega arith))
       (R-own c same (tame-same a) refl (s .R) (s .C) le le (λ d. refl) (omega arith) refl
-      (λ _ b n hb r l. listing-has (rph s) (λ b. sharing? (s .dat) (s .cl b .number) (s .cl a .number)) a b (open-below b (omega arith)) n (omega arith) (sharing (s .dat) _ _ r))
+      (λ _ b n hb r l. listing-has (rph s) (λ b. sharing? (s .dat) (s .cl b .number) (s .cl a .number)) a b (open-below b (omega arith)) n
+      (omega arith) (sharing (s .dat) _ _ r))
       (λ h. absurd (omega arith)))
       (C-low c same (tame-same a) refl (s .R) (s .C) le le (omega (arith, cph-in 4 (omega arith))))
     where
@@ -173,7 +187,8 @@ module _ {bounds : Bounds} {s : State} {p : Plain} (inv : Inv bounds s p) (a : �
       c = withRwait (s .cl a) 4 (listing (rph s) (λ b. sharing? (s .dat) (s .cl b .number) (s .cl a .number)) a)
 
   -- A waiting client's place: nothing of the plain table changes.
-  waits : (c : Client) → c .stage ≡ s .cl a .stage → c .number ≡ s .cl a .number → c .snapshot ≡ s .cl a .snapshot → c .commit ≡ s .cl a .commit → (p .cl a .stage ≡ 4) ⊎ (p .cl a .stage ≡ 10) → (n : ℕ) → n ≢ 0
+  waits : (c : Client) → c .stage ≡ s .cl a .stage → c .number ≡ s .cl a .number → c .snapshot ≡ s .cl a .snapshot
+      → c .commit ≡ s .cl a .commit → (p .cl a .stage ≡ 4) ⊎ (p .cl a .stage ≡ 10) → (n : ℕ) → n ≢ 0
       → RQ (stepped s (s .R) (s .C) (putₛ a c same (s .cl))) → CQ (stepped s (s .R) (s .C) (putₛ a c same (s .cl)))
       → Good bounds s p (Advance a) (out (stepped s (s .R) (s .C) (putₛ a c same (s .cl))) (Answered (Waiting n)))
   unfolding updateₚ onAdvanceₚ onProgressₚ
@@ -191,7 +206,8 @@ module _ {bounds : Bounds} {s : State} {p : Plain} (inv : Inv bounds s p) (a : �
   unfolding rphase lookR
   arm4 e =
       ite-elim (Good bounds s p (Advance a)) (ℕ-discrete (listSize clients w) 0)
-      (λ z. goes (c 5) same (tame-same a) (s .R) (omega arith) refl refl refl (omega arith) (omega arith) (omega arith) (omega arith) (λ h. absurd (omega arith))
+      (λ z. goes (c 5) same (tame-same a) (s .R) (omega arith) refl refl refl (omega arith) (omega arith) (omega arith) (omega arith)
+      (λ h. absurd (omega arith))
       (R-own (c 5) same (tame-same a) refl (s .R) (s .C) le le (λ d. refl) (omega arith) refl
       (λ h. absurd (omega arith))
       (λ _ b n hb r l. count-none clients w z b (open-below b (omega arith)) (still b n hb r l)))
@@ -207,11 +223,13 @@ module _ {bounds : Bounds} {s : State} {p : Plain} (inv : Inv bounds s p) (a : �
       c k = withRwait (s .cl a) k w
 
       still : (b : ℕ) → b ≢ a → 2 ≤ rph s b → Rel (s .dat) (s .cl) b a → s .cl b .request < s .cl a .request → w b ≡ true
-      still b n hb r l = look-keeps (rph s) (λ b. s .cl b .request) a (s .cl a .rwait) b (omega arith) (omega arith) ∙ inv .rq .listed b a n hb (omega arith) r l
+      still b n hb r l = look-keeps (rph s) (λ b. s .cl b .request) a (s .cl a .rwait) b (omega arith) (omega arith) ∙ inv .rq .listed b a n
+          hb (omega arith) r l
 
   -- From stage 5 on nothing of the request queue changes.
   module _ (c : Client) (f : Client → Client) (tame : Tame a f) (fr : (d : Client) → f d .rwait ≡ d .rwait) (number : c .number ≡ s .cl a .number)
-      (C : ℕ) (hC : s .C ≤ C) (h : 5 ≤ s .cl a .stage) (h′ : 5 ≤ c .stage) (request : c .request ≡ s .cl a .request) (wait : c .rwait ≡ s .cl a .rwait) where
+      (C : ℕ) (hC : s .C ≤ C) (h : 5 ≤ s .cl a .stage) (h′ : 5 ≤ c .stage) (request : c .request ≡ s .cl a .request)
+      (wait : c .rwait ≡ s .cl a .rwait) where
     pub R-past : RQ (stepped s (s .R) C (putₛ a c f (s .cl)))
     unfolding rphase
     R-past = R-stay c f tame number (s .R) C le hC fr (omega arith) request (omega arith) wait
@@ -230,7 +248,8 @@ module _ {bounds : Bounds} {s : State} {p : Plain} (inv : Inv bounds s p) (a : �
   arm7 e = (
     right-stage 8 (omega arith) (omega arith) (omega arith) (omega arith) (λ h. absurd (omega arith)),
     rw onStage-took
-        (moves inv a c same (tame-same a) (s .R) (suc (s .C)) (suc (p .count)) (suc (p .count)) (ap suc (inv .counted)) (setP a (restaged (p .cl a) 8 (suc (p .count))) (p .cl))
+        (moves inv a c same (tame-same a) (s .R) (suc (s .C)) (suc (p .count)) (suc (p .count)) (ap suc (inv .counted))
+        (setP a (restaged (p .cl a) 8 (suc (p .count))) (p .cl))
         (setP-at a _ (p .cl)) (setP-off a _ (p .cl)) refl refl (late-step (s .cl a .stage) 8 (omega arith) (omega arith)) isopen (omega arith)
         (R-past c same (tame-same a) (λ d. refl) refl (suc (s .C)) (omega arith) (omega arith) (omega arith) refl refl)
         (C-taken c same (tame-same a) refl (s .R) (suc (s .C)) le (omega arith) (omega (arith, cph-in 8 (omega arith))) refl refl)
@@ -255,7 +274,8 @@ module _ {bounds : Bounds} {s : State} {p : Plain} (inv : Inv bounds s p) (a : �
 
   pub arm9 : s .cl a .stage ≡ 9 → Good bounds s p (Advance a) (listC s a)
   unfolding listC
-  arm9 e = goes c same (tame-same a) (s .R) (omega arith) refl refl refl (omega arith) (omega arith) (omega arith) (omega arith) (λ h. absurd (omega arith))
+  arm9 e = goes c same (tame-same a) (s .R) (omega arith) refl refl refl (omega arith) (omega arith) (omega arith) (omega arith)
+      (λ h. absurd (omega arith))
       (R-past c same (tame-same a) (λ d. refl) refl (s .C) le (omega arith) (omega arith) refl refl)
       (C-own c same (tame-same a) refl (s .R) (s .C) le le (λ d. refl) (omega (arith, cph-in (s .cl a .stage) (omega arith))) refl
       (λ _ b n hb r l. listing-has (cph s) {P = λ _. Unit {0}} (λ _. yes tt) a b (cph-below b (omega arith)) n (omega arith) tt)
@@ -268,7 +288,8 @@ module _ {bounds : Bounds} {s : State} {p : Plain} (inv : Inv bounds s p) (a : �
   unfolding lookC
   arm10 e =
       ite-elim (Good bounds s p (Advance a)) (ℕ-discrete (listSize clients w) 0)
-      (λ z. goes (c 11) same (tame-same a) (s .R) (omega arith) refl refl refl (omega arith) (omega arith) (omega arith) (omega arith) (λ h. absurd (omega arith))
+      (λ z. goes (c 11) same (tame-same a) (s .R) (omega arith) refl refl refl (omega arith) (omega arith) (omega arith) (omega arith)
+      (λ h. absurd (omega arith))
       (R-past (c 11) same (tame-same a) (λ d. refl) refl (s .C) le (omega arith) (omega arith) refl refl)
       (C-own (c 11) same (tame-same a) refl (s .R) (s .C) le le (λ d. refl) (omega (arith, cph-in (s .cl a .stage) (omega arith))) refl
       (λ h. absurd (omega (arith, cph-in 11 (omega arith))))
@@ -289,7 +310,10 @@ module _ {bounds : Bounds} {s : State} {p : Plain} (inv : Inv bounds s p) (a : �
           look-keeps (cph s) (λ b. s .cl b .commit) a (s .cl a .cwait) b (omega arith) (omega arith)
           ∙ inv .cq .listed b a n hb (omega (arith, cph-in (s .cl a .stage) (omega arith))) r l
 
-  pub arm12 : s .cl a .stage ≡ 12 → Good bounds s p (Advance a) (out (withClientsₛ s (putₛ a (atStageₛ (clearC a (s .cl a)) 13) (clearC a) (s .cl))) (Answered (Stage 13)))
-  arm12 e = goes (atStageₛ (clearC a (s .cl a)) 13) (clearC a) (tame-C a) (s .R) (omega arith) refl refl refl (omega arith) (omega arith) (omega arith) (omega arith) (λ h. absurd (omega arith))
+  pub arm12 : s .cl a .stage ≡ 12
+      → Good bounds s p (Advance a) (out (withClientsₛ s (putₛ a (atStageₛ (clearC a (s .cl a)) 13) (clearC a) (s .cl)))
+      (Answered (Stage 13)))
+  arm12 e = goes (atStageₛ (clearC a (s .cl a)) 13) (clearC a) (tame-C a) (s .R) (omega arith) refl refl refl (omega arith) (omega arith)
+      (omega arith) (omega arith) (λ h. absurd (omega arith))
       (R-past (atStageₛ (clearC a (s .cl a)) 13) (clearC a) (tame-C a) (λ d. refl) refl (s .C) le (omega arith) (omega arith) refl refl)
       (C-low (atStageₛ (clearC a (s .cl a)) 13) (clearC a) (tame-C a) refl (s .R) (s .C) le le (omega (arith, cph-out 13 (omega arith))))

@@ -50,7 +50,12 @@ module _ (k : ℕ) (Q : Open → List Commit → Type 0) (f : ℕ → Option Ope
   entry : (j : ℕ) (o p : Open) → f j ≡ some o → (j ≡ k → Q o l → Q p l) → HoldsOpen k Q (override j (some p) f) l
   entry j o p e h =
       by-cases (ℕ-discrete j k)
-      (λ q. (p, ap (override j (some p) f) (sym q) ∙ put-same j (some p) f, h q (subst (λ (z : Open). Q z l) (same-some (sym (s .1) ∙ ap f (sym q) ∙ e)) (s .2))))
+      (λ q. (
+        p,
+        ap (override j (some p) f) (sym q) ∙ put-same j (some p) f,
+        h q
+            (subst (λ (z : Open). Q z l) (same-some (sym (s .1) ∙ ap f (sym q) ∙ e)) (s .2)),
+      ))
       (λ n. other j (some p) n)
 
 -- what lasts through writes to cells as W says and through answers as P says, which do not end the transaction
@@ -80,11 +85,13 @@ module _ (W : ℕ → Type 0) (P : Progress → Type 0) (k : ℕ) (Q : Open → 
       → ((b : Observed q) → a ≡ Answered b → Spares W P k q b) → HoldsIn k Q t → HoldsIn k Q (update q a t)
   unfolding update
   call-spares n w t q (Refused m) next r c s = s
-  call-spares n w t (Begin j) (Answered a) next r c s = other k Q (t .clients) (t .book) s j _ (λ e. none-some (ap (t .clients) (sym e) ∙ r .closed) (s .1))
+  call-spares n w t (Begin j) (Answered a) next r c s = other k Q (t .clients) (t .book) s j _
+      (λ e. none-some (ap (t .clients) (sym e) ∙ r .closed) (s .1))
   call-spares n w t (Read j y) (Answered a) next r c s = s
   call-spares n w t (Write j y b) (Answered a) next r c s =
       rw (r .found) (entry k Q (t .clients) (t .book) s j (r .entry) _ (r .found) (λ e. l .wrote (r .entry) (t .book) y b (c a refl e)))
-  call-spares n w t (Advance j) (Answered (Stage g)) next r c s = rw (r .found) (stage-spares t j g (r .entry) (r .found) (r .progress .next) (c (Stage g) refl) s)
+  call-spares n w t (Advance j) (Answered (Stage g)) next r c s = rw (r .found)
+      (stage-spares t j g (r .entry) (r .found) (r .progress .next) (c (Stage g) refl) s)
   call-spares n w t (Advance j) (Answered (Waiting m)) next r c s = s
   call-spares n w t (Advance j) (Answered (Conflict m)) next r c s =
       other k Q (t .clients) (t .book) s j none (λ e. l .conflict m (c (Conflict m) refl e))
@@ -99,7 +106,8 @@ module _ (W : ℕ → Type 0) (P : Progress → Type 0) (k : ℕ) (Q : Open → 
   abbrev StillRight : Bounds → (q : Call) → Answer (Observed q) → Type 0
   StillRight n q a = (t : Table) × HoldsIn k Q t × ((w : ℕ) × (next : Answer ℕ) × Right n w t q a next)
 
-  up-to : (q : Call) (qs rest : List Call) (n : Bounds) (w : ℕ) (t : Table) (m : Memory) → RightRun n w t m (qs ++ (q ∷ rest)) → Undisturbed W P k m qs
+  up-to : (q : Call) (qs rest : List Call) (n : Bounds) (w : ℕ) (t : Table) (m : Memory) → RightRun n w t m (qs ++ (q ∷ rest))
+      → Undisturbed W P k m qs
       → HoldsIn k Q t → StillRight n q (observed q (afterRun qs m))
   up-to q [] rest n w t m r c s = (t, s, (w, _, r .0))
   up-to q (p ∷ qs) rest n w t m r c s = up-to q qs rest n _ _ _ (r .1) (c .1) (call-spares n w t p (observed p m) _ (r .0) (c .0) s)
@@ -113,5 +121,6 @@ module _ (W : ℕ → Type 0) (P : Progress → Type 0) (k : ℕ) (Q : Open → 
     two-calls [] n w t m r e c =
         let next : Answer ℕ = step Free (step p m .memory) .answer in
         up-to q between rest n _ _ _ (r .1) c
-        (subst (λ (z : Answer (Observed p)). HoldsIn k Q (update p z t)) (sym e) (first n w t next (subst (λ (z : Answer (Observed p)). Right n w t p z next) e (r .0))))
+        (subst (λ (z : Answer (Observed p)). HoldsIn k Q (update p z t)) (sym e)
+        (first n w t next (subst (λ (z : Answer (Observed p)). Right n w t p z next) e (r .0))))
     two-calls (b ∷ before) n w t m r e c = two-calls before n _ _ _ (r .1) e c

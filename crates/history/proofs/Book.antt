@@ -37,7 +37,8 @@ module _ (n : Bounds) (P : Table → Type 0)
 
 -- a claim on values and book that every commit numbered above the last keeps
 module _ (P : Values → List Commit → Type 0)
-    (made : (k : ℕ) (t : Table) (o : Open) → lastNumber (t .book) < o .commit → P (t .values) (t .book) → P (onCommit k t o .values) (onCommit k t o .book)) where
+    (made : (k : ℕ) (t : Table) (o : Open) → lastNumber (t .book) < o .commit → P (t .values) (t .book)
+    → P (onCommit k t o .values) (onCommit k t o .book)) where
   stage-keeps : (t : Table) (o : Open) (k g : ℕ) → RightProgress t o (Stage g) → P (t .values) (t .book)
       → P (onStage k g t (some o) .values) (onStage k g t (some o) .book)
   unfolding onStage
@@ -45,7 +46,8 @@ module _ (P : Values → List Commit → Type 0)
       by-branch (λ s. P (s .values) (s .book)) (eqb g 8) (λ _. h)
       (λ _. by-branch (λ s. P (s .values) (s .book)) (eqb g 12) (λ e. made k t o (r .made (eqb-true g 12 e) .above) h) (λ _. h))
 
-  call-keeps : (n : Bounds) (w : ℕ) (t : Table) (q : Call) (a : Answer (Observed q)) (next : Answer ℕ) → Right n w t q a next → P (t .values) (t .book)
+  call-keeps : (n : Bounds) (w : ℕ) (t : Table) (q : Call) (a : Answer (Observed q)) (next : Answer ℕ) → Right n w t q a next
+      → P (t .values) (t .book)
       → P (update q a t .values) (update q a t .book)
   unfolding update
   call-keeps n w t q (Refused m) next r h = h

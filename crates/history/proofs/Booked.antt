@@ -88,7 +88,8 @@ upTo-some S (e ∷ l) h x v q =
       within = there (t .within);
       below = t .below;
       puts = t .puts;
-      last = λ d i k j. in-case i (λ y. absurd (n (subst (λ (z : Entry). z .number ≤ S) y k) (subst (λ (z : Entry). IsSome (z .puts x)) y j))) (λ y. t .last d y k j);
+      last = λ d i k j. in-case i (λ y. absurd (n (subst (λ (z : Entry). z .number ≤ S) y k)
+          (subst (λ (z : Entry). IsSome (z .puts x)) y j))) (λ y. t .last d y k j);
     }
 
 pub upTo-none : (S : ℕ) (book : List Entry) (x : ℕ) → valuesUpTo S book x ≡ none → (d : Entry) → In d book → d .number ≤ S → IsSome (d .puts x) → ⊥
@@ -97,9 +98,11 @@ upTo-none S [] x q d i k j = in-nil i
 upTo-none S (e ∷ l) x q d i k j =
     by-cases (decLe (e .number) S)
     (λ le. option-case (e .puts x)
-    (λ z. in-case i (λ y. nothing z (subst (λ (z : Entry). IsSome (z .puts x)) y j)) (λ y. upTo-none S l x (rw z at (sym (if-pos (decLe (e .number) S) le _ _) ∙ q)) d y k j))
+    (λ z. in-case i (λ y. nothing z (subst (λ (z : Entry). IsSome (z .puts x)) y j))
+    (λ y. upTo-none S l x (rw z at (sym (if-pos (decLe (e .number) S) le _ _) ∙ q)) d y k j))
     (λ w z. none-some (rw z at (sym (if-pos (decLe (e .number) S) le _ _) ∙ q)) refl))
-    (λ gt. in-case i (λ y. gt (subst (λ (z : Entry). z .number ≤ S) y k)) (λ y. upTo-none S l x (sym (if-neg (decLe (e .number) S) gt _ _) ∙ q) d y k j))
+    (λ gt. in-case i (λ y. gt (subst (λ (z : Entry). z .number ≤ S) y k))
+    (λ y. upTo-none S l x (sym (if-neg (decLe (e .number) S) gt _ _) ∙ q) d y k j))
 
 -- Rows found.
 pub is-some : {A : Type 0} (o : Option A) → IsSome o → (v : A) × (o ≡ some v)
@@ -144,14 +147,16 @@ pub without-none : (t : ℕ) (d : List DRow) → (((r : DRow) × In r d × (r .t
 unfolding without drop?
 without-none t [] n = refl
 without-none t (r ∷ d) n =
-    if-neg (ℕ-discrete (r .tag) t) (λ e. n (r, here refl, e)) _ _ ∙ ap (λ (l : List DRow). r ∷ l) (without-none t d (λ h. n (h .0, there (h .1), h .2)))
+    if-neg (ℕ-discrete (r .tag) t) (λ e. n (r, here refl, e)) _ _ ∙ ap (λ (l : List DRow). r ∷ l)
+    (without-none t d (λ h. n (h .0, there (h .1), h .2)))
 
 pub find-uniq : (d : List DRow) → Uniq d → (r : DRow) → In r d → findₛ (r .tag) (r .cell) d ≡ some (r .value)
 unfolding findₛ first
 find-uniq [] u r i = absurd (in-nil i)
 find-uniq (h ∷ l) u r i =
     in-case i
-    (λ e. rw (value-same (r .tag) (r .cell) h (ap (λ (z : DRow). z .tag) (sym e)) (ap (λ (z : DRow). z .cell) (sym e))) (ap (λ (z : DRow). some (z .value)) (sym e)))
+    (λ e. rw (value-same (r .tag) (r .cell) h (ap (λ (z : DRow). z .tag) (sym e)) (ap (λ (z : DRow). z .cell) (sym e)))
+    (ap (λ (z : DRow). some (z .value)) (sym e)))
     (λ j. option-case (valueAtₛ (r .tag) (r .cell) h)
     (λ e. rw e (find-uniq l (u .1) r j))
     (λ v e. let q = value-at (r .tag) (r .cell) h v e in absurd (u .0 r j (sym (q .0)) (sym (q .1)))))
@@ -223,10 +228,12 @@ module _ (t x : ℕ) (v : Value) where
   in-replace [] r i n = absurd (in-nil i)
   in-replace (h ∷ l) r i n =
       ite-elim (In r) (some? (valueAtₛ t x h))
-      (λ k. let w = is-some (valueAtₛ t x h) k in let q = value-at t x h (w .0) (w .1) in in-case i (λ e. absurd (n (ap (λ (z : DRow). z .tag) e ∙ q .0))) there)
+      (λ k. let w = is-some (valueAtₛ t x h) k in let q = value-at t x h (w .0) (w .1) in in-case i
+      (λ e. absurd (n (ap (λ (z : DRow). z .tag) e ∙ q .0))) there)
       (λ _. in-case i here (λ j. there (in-replace l r j n)))
 
-  replace-find : (d : List DRow) (u y : ℕ) → ((r : DRow) → r .tag ≡ t → r .cell ≡ x → valueAtₛ u y r ≡ none) → findₛ u y (replace t x v d) ≡ findₛ u y d
+  replace-find : (d : List DRow) (u y : ℕ) → ((r : DRow) → r .tag ≡ t → r .cell ≡ x → valueAtₛ u y r ≡ none)
+      → findₛ u y (replace t x v d) ≡ findₛ u y d
   unfolding replace findₛ first
   replace-find [] u y n = refl
   replace-find (h ∷ l) u y n =
@@ -274,7 +281,8 @@ module _ (t x : ℕ) (v : Value) where
 pub number-at : (t : ℕ) (c : CRow) (n : ℕ) → numberAt t c ≡ some n → (c .tag ≡ t) × (c .number ≡ n)
 unfolding numberAt
 number-at t c n =
-    ite-elim (λ o. o ≡ some n → (c .tag ≡ t) × (c .number ≡ n)) (ℕ-discrete (c .tag) t) (λ e q. (e, Option·some-injective _ _ q)) (λ _ q. absurd (none-some refl q))
+    ite-elim (λ o. o ≡ some n → (c .tag ≡ t) × (c .number ≡ n)) (ℕ-discrete (c .tag) t) (λ e q. (e, Option·some-injective _ _ q))
+    (λ _ q. absurd (none-some refl q))
 
 number-same : (t : ℕ) (c : CRow) → c .tag ≡ t → numberAt t c ≡ some (c .number)
 unfolding numberAt

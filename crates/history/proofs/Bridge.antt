@@ -59,7 +59,8 @@ module _ (i : Image) (h : Wellformed i) where
   seen-whole = rw (rows-spread 24 (i .rows) (i .dataRows) (h .dataWide), rows-spread 8 (i .rows) (i .commitRows) (h .commitWide))
 
   -- what a call makes of it, laid out in its place, is the call's image laid out
-  laid-out : {A : Type 0} (o : Outcome A) → Kept i o → encode (encoded i .store) (encoded i .dataBytes) (encoded i .commitBytes) o ≡ with (encoded (o .image)) (o .answer)
+  laid-out : {A : Type 0} (o : Outcome A) → Kept i o
+      → encode (encoded i .store) (encoded i .dataBytes) (encoded i .commitBytes) o ≡ with (encoded (o .image)) (o .answer)
   unfolding encode encoded storeOf
   laid-out o k =
       let d : length (o .image .dataRows) ≤ i .rows = rw (k .size) at (k .fine .dataFit) in

@@ -138,7 +138,8 @@ module _ (s : State) (a : ℕ) where
 
 module _ (s : State) (idle : (b : ℕ) → s .cl b .number ≡ 0 → s .cl b .stage ≡ 0) where
   -- nothing changes but the client, up to stage 12
-  goes : (a : ℕ) (c : Client) (x : Answer Progress) → Up s a c → Moved s a c → 1 ≤ c .stage → c .stage ≤ 12 → Change s (Advance a) (out (move s a c) x)
+  goes : (a : ℕ) (c : Client) (x : Answer Progress) → Up s a c → Moved s a c → 1 ≤ c .stage → c .stage ≤ 12
+      → Change s (Advance a) (out (move s a c) x)
   goes a c x u v l k =
       moves a c x same (s .R) (s .C) (s .last) (s .comm) u v l (tame-same a) (λ e. absurd (omega arith)) (omega arith) (omega arith)
 

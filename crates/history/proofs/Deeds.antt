@@ -34,13 +34,17 @@ use Rattle.spec.specs.Rows.{cells}
 module _ {bounds : Bounds} {s : State} {p : Plain} (inv : Inv bounds s p) (a : ℕ) where
   -- Client a ends outside both queues, and the rows of the others are no more than they were.
   module _ (c : Client) (f : Client → Client) (tame : Tame a f) (h : c .stage ≡ 0) where
-    R-out : (dat′ : List DRow) → ((b : ℕ) → b ≢ a → 1 ≤ s .cl b .number → (x : ℕ) → IsSome (findₛ (s .cl b .number) x dat′) → IsSome (findₛ (s .cl b .number) x (s .dat)))
-        → TicketQueue (λ b. rphase (putₛ a c f (s .cl) b .stage)) (λ b. putₛ a c f (s .cl) b .request) (λ b. putₛ a c f (s .cl) b .rwait) (s .R) (Rel dat′ (putₛ a c f (s .cl)))
+    R-out : (dat′ : List DRow)
+        → ((b : ℕ) → b ≢ a → 1 ≤ s .cl b .number → (x : ℕ) → IsSome (findₛ (s .cl b .number) x dat′)
+        → IsSome (findₛ (s .cl b .number) x (s .dat)))
+        → TicketQueue (λ b. rphase (putₛ a c f (s .cl) b .stage)) (λ b. putₛ a c f (s .cl) b .request) (λ b. putₛ a c f (s .cl) b .rwait)
+        (s .R) (Rel dat′ (putₛ a c f (s .cl)))
     unfolding rphase
     R-out dat′ sub =
         low a (inv .rq)
         (others-R a c f tame (s .cl) (s .dat) dat′ (omega arith)
-        (each a (λ b. 2 ≤ rphase (putₛ a c f (s .cl) b .stage) → (x : ℕ) → IsSome (findₛ (putₛ a c f (s .cl) b .number) x dat′) → IsSome (findₛ (s .cl b .number) x (s .dat)))
+        (each a (λ b. 2 ≤ rphase (putₛ a c f (s .cl) b .stage) → (x : ℕ) → IsSome (findₛ (putₛ a c f (s .cl) b .number) x dat′) → IsSome
+        (findₛ (s .cl b .number) x (s .dat)))
         (λ k. absurd (omega (arith, ap (λ (d : Client). d .stage) (put-at a c f (s .cl)))))
         (λ b m. rw (put-off a c f (s .cl) b m, tame .stage (s .cl b), tame .number (s .cl b)) (λ k. sub b m (opened b k)))))
         (rw (put-at a c f (s .cl)) (omega arith))
@@ -48,7 +52,8 @@ module _ {bounds : Bounds} {s : State} {p : Plain} (inv : Inv bounds s p) (a : �
         opened : (b : ℕ) → 2 ≤ min (s .cl b .stage) 5 → 1 ≤ s .cl b .number
         opened b k = by-cases (ℕ-discrete (s .cl b .number) 0) (λ e. absurd (omega (arith, inv .one b .idle e))) (λ n. omega arith)
 
-    C-out : TicketQueue (λ b. cphase (putₛ a c f (s .cl) b .stage)) (λ b. putₛ a c f (s .cl) b .commit) (λ b. putₛ a c f (s .cl) b .cwait) (s .C) Always
+    C-out : TicketQueue (λ b. cphase (putₛ a c f (s .cl) b .stage)) (λ b. putₛ a c f (s .cl) b .commit) (λ b. putₛ a c f (s .cl) b .cwait)
+        (s .C) Always
     C-out = low a (inv .cq) (others-C a c f tame (s .cl) (omega arith)) (rw (put-at a c f (s .cl), h) (omega (arith, cph-in 0 (omega arith))))
 
   pub begin-good : a < clients → s .cl a .number ≡ 0 → s .W < top → Good bounds s p (Begin a) (begunₛ s a)
@@ -59,7 +64,8 @@ module _ {bounds : Bounds} {s : State} {p : Plain} (inv : Inv bounds s p) (a : �
       same-bounds = inv .same-bounds;
       counted = inv .counted;
       last-le = inv .last-le;
-      one = each a (λ b. OneClient (s .last) (p .book) b (putₛ a c same (s .cl) b .number) (putₛ a c same (s .cl) b .stage) (putₛ a c same (s .cl) b .commit) (setP a q (p .cl) b))
+      one = each a (λ b. OneClient (s .last) (p .book) b (putₛ a c same (s .cl) b .number) (putₛ a c same (s .cl) b .stage)
+          (putₛ a c same (s .cl) b .commit) (setP a q (p .cl) b))
           (rw (put-at a c same (s .cl), setP-at a q (p .cl)) record {
             on-stage = refl;
             live = λ _. refl;
@@ -85,14 +91,18 @@ module _ {bounds : Bounds} {s : State} {p : Plain} (inv : Inv bounds s p) (a : �
       q = opening p
 
   -- Client a is closed.
-  leaves : (dat′ : List DRow) → ((b : ℕ) → b ≢ a → 1 ≤ s .cl b .number → (x : ℕ) → IsSome (findₛ (s .cl b .number) x dat′) → IsSome (findₛ (s .cl b .number) x (s .dat)))
-      → Tab dat′ (s .comm) (s .last) (s .W) (p .table) (p .book) (readerOf (leave s a dat′) (onCloseₚ p a)) → Inv bounds (leave s a dat′) (onCloseₚ p a)
+  leaves : (dat′ : List DRow)
+      → ((b : ℕ) → b ≢ a → 1 ≤ s .cl b .number → (x : ℕ) → IsSome (findₛ (s .cl b .number) x dat′)
+      → IsSome (findₛ (s .cl b .number) x (s .dat)))
+      → Tab dat′ (s .comm) (s .last) (s .W) (p .table) (p .book) (readerOf (leave s a dat′) (onCloseₚ p a)) → Inv bounds (leave s a dat′)
+      (onCloseₚ p a)
   unfolding closedₛ none-yet
   leaves dat′ sub tab = record {
     same-bounds = inv .same-bounds;
     counted = inv .counted;
     last-le = inv .last-le;
-    one = each a (λ b. OneClient (s .last) (p .book) b (putₛ a closedₛ (clearBoth a) (s .cl) b .number) (putₛ a closedₛ (clearBoth a) (s .cl) b .stage) (putₛ a closedₛ (clearBoth a) (s .cl) b .commit) (setP a none-yet (p .cl) b))
+    one = each a (λ b. OneClient (s .last) (p .book) b (putₛ a closedₛ (clearBoth a) (s .cl) b .number)
+        (putₛ a closedₛ (clearBoth a) (s .cl) b .stage) (putₛ a closedₛ (clearBoth a) (s .cl) b .commit) (setP a none-yet (p .cl) b))
         (rw (put-at a closedₛ (clearBoth a) (s .cl), setP-at a none-yet (p .cl)) record {
           on-stage = refl;
           live = λ k. absurd (omega arith);
@@ -136,7 +146,8 @@ module _ {bounds : Bounds} {s : State} {p : Plain} (inv : Inv bounds s p) (a : �
   )
 
   -- Client a ends with nothing written: it has no row to remove.
-  pub arm0-ends : 1 ≤ s .cl a .number → s .cl a .stage ≡ 0 → (HasRow (s .cl a .number) (s .dat) → ⊥) → Good bounds s p (Advance a) (out (leave s a (s .dat)) (Answered (Done (s .cl a .snapshot))))
+  pub arm0-ends : 1 ≤ s .cl a .number → s .cl a .stage ≡ 0 → (HasRow (s .cl a .number) (s .dat) → ⊥)
+      → Good bounds s p (Advance a) (out (leave s a (s .dat)) (Answered (Done (s .cl a .snapshot))))
   unfolding updateₚ onAdvanceₚ onProgressₚ lateness
   arm0-ends isopen e n = (
     (
@@ -144,11 +155,13 @@ module _ {bounds : Bounds} {s : State} {p : Plain} (inv : Inv bounds s p) (a : �
       inr (
         inv .one a .on-stage ∙ e,
         λ w. let z = is-some (p .cl a .writes (w .0)) (w .1) in
-            none-some (none-found (s .cl a .number) (w .0) (s .dat) (λ r i q. n (r, i, q))) (inv .tab .mine a isopen .held (omega arith) (w .0) ∙ z .1),
+            none-some (none-found (s .cl a .number) (w .0) (s .dat) (λ r i q. n (r, i, q)))
+            (inv .tab .mine a isopen .held (omega arith) (w .0) ∙ z .1),
         sym (inv .tab .mine a isopen .began),
       ),
     ),
-    subst (λ (d : List DRow). Inv bounds (leave s a d) (onCloseₚ p a)) (without-none (s .cl a .number) (s .dat) n) (leaves-removed isopen (omega arith)),
+    subst (λ (d : List DRow). Inv bounds (leave s a d) (onCloseₚ p a)) (without-none (s .cl a .number) (s .dat) n)
+        (leaves-removed isopen (omega arith)),
   )
 
   module _ (isopen : 1 ≤ s .cl a .number) (e : s .cl a .stage ≡ 5) where
@@ -157,10 +170,12 @@ module _ {bounds : Bounds} {s : State} {p : Plain} (inv : Inv bounds s p) (a : �
     passes h = (
       (inv .one a .live isopen, (omega (arith, inv .one a .on-stage), omega arith, λ k. absurd (omega arith), λ _. h, λ k. absurd (omega arith))),
       rw (onStage-moved p a 6 (omega arith) (omega arith))
-          (moves inv a (atStageₛ (s .cl a) 6) same (tame-same a) (s .R) (s .C) (p .count) (p .cl a .commit) (inv .counted) (setP a (restaged (p .cl a) 6 (p .cl a .commit)) (p .cl))
+          (moves inv a (atStageₛ (s .cl a) 6) same (tame-same a) (s .R) (s .C) (p .count) (p .cl a .commit) (inv .counted)
+          (setP a (restaged (p .cl a) 6 (p .cl a .commit)) (p .cl))
           (setP-at a _ (p .cl)) (setP-off a _ (p .cl)) refl refl (late-step (s .cl a .stage) 6 (omega arith) (omega arith)) isopen (omega arith)
           (R-past inv a isopen (atStageₛ (s .cl a) 6) same (tame-same a) (λ d. refl) refl (s .C) (omega arith) (omega arith) (omega arith) refl refl)
-          (C-low inv a isopen (atStageₛ (s .cl a) 6) same (tame-same a) refl (s .R) (s .C) (omega arith) (omega arith) (omega (arith, cph-in 6 (omega arith))))
+          (C-low inv a isopen (atStageₛ (s .cl a) 6) same (tame-same a) refl (s .R) (s .C) (omega arith) (omega arith)
+          (omega (arith, cph-in 6 (omega arith))))
           (λ k. absurd (omega arith))
           (λ k. absurd (omega arith))
           (λ k. absurd (omega arith))
@@ -228,7 +243,8 @@ module _ {bounds : Bounds} {s : State} {p : Plain} (inv : Inv bounds s p) (a : �
         same-bounds = inv .same-bounds;
         counted = inv .counted;
         last-le = inv .cq .bound a (omega (arith, five));
-        one = each a (λ b. OneClient (s .cl a .commit) (entry ∷ p .book) b (putₛ a c same (s .cl) b .number) (putₛ a c same (s .cl) b .stage) (putₛ a c same (s .cl) b .commit) (setP a q (p .cl) b))
+        one = each a (λ b. OneClient (s .cl a .commit) (entry ∷ p .book) b (putₛ a c same (s .cl) b .number)
+            (putₛ a c same (s .cl) b .stage) (putₛ a c same (s .cl) b .commit) (setP a q (p .cl) b))
             (rw (put-at a c same (s .cl), setP-at a q (p .cl)) record {
               on-stage = refl;
               live = inv .one a .live;
@@ -244,7 +260,8 @@ module _ {bounds : Bounds} {s : State} {p : Plain} (inv : Inv bounds s p) (a : �
         rq = R-past inv a isopen c same (tame-same a) (λ d. refl) refl (s .C) (omega arith) (omega arith) (omega arith) refl refl;
         cq = C-own inv a isopen c same (tame-same a) refl (s .R) (s .C) (omega arith) (omega arith) (λ d. refl) (omega (arith, five)) refl
             (λ k. absurd (omega (arith, cph-in 12 (omega arith)))) (λ k b m h r l. inv .cq .passed b a m h (omega (arith, five)) r l);
-        tab = tab-committed (inv .tab) a (seen-off a c same (tame-same a) (s .cl) q (p .cl)) (s .cl a .commit) (inv .one a .ahead (omega arith) (omega arith)) isopen (omega arith)
+        tab = tab-committed (inv .tab) a (seen-off a c same (tame-same a) (s .cl) q (p .cl)) (s .cl a .commit)
+            (inv .one a .ahead (omega arith) (omega arith)) isopen (omega arith)
             (seen-at a c same (s .cl) q (p .cl));
       },
     )
@@ -298,17 +315,21 @@ module _ {bounds : Bounds} {s : State} {p : Plain} (inv : Inv bounds s p) (a : �
       (subst (λ (g : ℕ). F (bounds .limit) g (writesOf s a)) (sym (inv .one a .on-stage))
       (subst (λ (b : Bounds). F (b .limit) (s .cl a .stage) (writesOf s a)) (inv .same-bounds) h))
 
-  pub write-refused : (x : ℕ) (v : Value) (r : ℕ) → 1 ≤ s .cl a .number → WriteRefusal (s .bounds .limit) (s .cl a .stage) (writesOf s a) x v (Answered (freeₛ s)) r
+  pub write-refused : (x : ℕ) (v : Value) (r : ℕ) → 1 ≤ s .cl a .number
+      → WriteRefusal (s .bounds .limit) (s .cl a .stage) (writesOf s a) x v (Answered (freeₛ s)) r
       → WriteRefusal (bounds .limit) (p .cl a .stage) (p .cl a .writes) x v (Answered (freeₛ s)) r
   write-refused x v r isopen (for-cell h) = for-cell h
   write-refused x v r isopen (for-length h l) = for-length h l
   write-refused x v r isopen (for-stage h l e) = for-stage h l (omega (arith, inv .one a .on-stage))
-  write-refused x v r isopen (for-limit h n m) = by-table (λ b g w. WriteRefusal b g w x v (Answered (freeₛ s)) cellLimit) isopen (h .stage) (for-limit h n m)
-  write-refused x v r isopen (for-rows h n m f) = by-table (λ b g w. WriteRefusal b g w x v (Answered (freeₛ s)) noFreeRow) isopen (h .stage) (for-rows h n m f)
+  write-refused x v r isopen (for-limit h n m) = by-table (λ b g w. WriteRefusal b g w x v (Answered (freeₛ s)) cellLimit) isopen (h .stage)
+      (for-limit h n m)
+  write-refused x v r isopen (for-rows h n m f) = by-table (λ b g w. WriteRefusal b g w x v (Answered (freeₛ s)) noFreeRow) isopen
+      (h .stage) (for-rows h n m f)
 
   -- A write.
   module _ (x : ℕ) (v : Value) (fits : WriteAllowed (s .bounds .limit) (s .cl a .stage) (writesOf s a) x v) (isopen : 1 ≤ s .cl a .number) where
-    pub write-good : (dat′ : List DRow) → Written (s .cl a .number) x v (s .dat) dat′ → Good bounds s p (Write a x v) (figured (withData s dat′ (s .cl)))
+    pub write-good : (dat′ : List DRow) → Written (s .cl a .number) x v (s .dat) dat′
+        → Good bounds s p (Write a x v) (figured (withData s dat′ (s .cl)))
     unfolding updateₚ onWriteₚ rphase lateness
     write-good dat′ w = (
       (inv .one a .live isopen, by-table (λ b g w. WriteAllowed b g w x v) isopen (fits .may .stage) fits, refl),
@@ -337,7 +358,8 @@ module _ {bounds : Bounds} {s : State} {p : Plain} (inv : Inv bounds s p) (a : �
           concerns = λ b d hb hd r. (r .0, others b hb (r .0) (r .1), others d hd (r .0) (r .2));
         } (omega arith);
         cq = inv .cq;
-        tab = tab-written (inv .tab) a (λ b m. ap (λ (z : PClient). seenOf (s .cl b) z) (setP-off a q (p .cl) b m)) x v dat′ (fits .may .cell) isopen (omega (arith, e)) w
+        tab = tab-written (inv .tab) a (λ b m. ap (λ (z : PClient). seenOf (s .cl b) z) (setP-off a q (p .cl) b m)) x v dat′
+            (fits .may .cell) isopen (omega (arith, e)) w
             (ap (λ (z : PClient). seenOf (s .cl a) z) (setP-at a q (p .cl)));
       },
     )
@@ -348,10 +370,12 @@ module _ {bounds : Bounds} {s : State} {p : Plain} (inv : Inv bounds s p) (a : �
         q : PClient
         q = rewritten (p .cl a) x v
 
-        others : (b : ℕ) → 2 ≤ min (s .cl b .stage) 5 → (y : ℕ) → IsSome (findₛ (s .cl b .number) y dat′) → IsSome (findₛ (s .cl b .number) y (s .dat))
+        others : (b : ℕ) → 2 ≤ min (s .cl b .stage) 5 → (y : ℕ) → IsSome (findₛ (s .cl b .number) y dat′)
+            → IsSome (findₛ (s .cl b .number) y (s .dat))
         others b h y i =
             let m : b ≢ a = λ z. omega (arith, ap (λ (k : ℕ). s .cl k .stage) z) in
-            let o : 1 ≤ s .cl b .number = by-cases (ℕ-discrete (s .cl b .number) 0) (λ z. absurd (omega (arith, inv .one b .idle z))) (λ n. omega arith) in
+            let o : 1 ≤ s .cl b .number = by-cases (ℕ-discrete (s .cl b .number) 0) (λ z. absurd (omega (arith, inv .one b .idle z)))
+            (λ n. omega arith) in
             rw (w .tags (s .cl b .number) y (inv .tab .apart b a m o)) at i
 
 -- The snapshots of the open clients.
@@ -365,8 +389,12 @@ unfolding snapshots lesserₛ
 snapshots-le zero cl a h k = absurd (omega arith)
 snapshots-le (suc n) cl a h k =
     by-cases (ℕ-discrete a n)
-    (λ e. let z = lesser-le (cl n .snapshot) (snapshots n cl) in
-    (z .0, if-pos (decLe 1 (cl n .number)) (subst (λ (i : ℕ). 1 ≤ cl i .number) e k) _ _ ∙ z .1, omega (arith, z .2, ap (λ (i : ℕ). cl i .snapshot) e)))
+    (λ e. let z = lesser-le (cl n .snapshot) (snapshots n cl) in (
+      z .0,
+      if-pos (decLe 1 (cl n .number)) (subst (λ (i : ℕ). 1 ≤ cl i .number) e k) _ _ ∙ z .1,
+      omega
+          (arith, z .2, ap (λ (i : ℕ). cl i .snapshot) e),
+    ))
     (λ m. let q = snapshots-le n cl a (omega arith) k in
     by-cases (decLe 1 (cl n .number))
     (λ p. let z = lesser-le (cl n .snapshot) (snapshots n cl) in
@@ -414,7 +442,8 @@ module _ {bounds : Bounds} {s : State} {p : Plain} (inv : Inv bounds s p) where
 
   nobody : rph s clients ≤ 1
   unfolding rphase
-  nobody = by-cases (ℕ-discrete (s .cl clients .number) 0) (λ e. omega (arith, inv .one clients .idle e)) (λ n. absurd (omega (arith, inv .one clients .below (omega arith))))
+  nobody = by-cases (ℕ-discrete (s .cl clients .number) 0) (λ e. omega (arith, inv .one clients .idle e))
+      (λ n. absurd (omega (arith, inv .one clients .below (omega arith))))
 
   -- the free figure that it leaves, and the rows in use
   figure : (d : List DRow) → length d ≤ length (s .dat) → length (s .dat) ≤ s .bounds .rows → s .bounds .rows - length d + length d ≡ bounds .rows

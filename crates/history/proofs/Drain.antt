@@ -231,7 +231,8 @@ module _ {n : ℕ} {q : Side} (line : Line n q) where
             omega arith
 
         -- every smaller number is gone after as many rounds as it needs
-        smaller : ((x m′ : ℕ) → m′ ≤ counter q s → ahead n q s m′ ≤ j → Following n (cost ex j) (Gone q x m′) s) → Following n (cost ex j) (Least q m) s
+        smaller : ((x m′ : ℕ) → m′ ≤ counter q s → ahead n q s m′ ≤ j → Following n (cost ex j) (Gone q x m′) s)
+            → Following n (cost ex j) (Least q m) s
         smaller rec =
             so (least-stable m) (cost ex j) s g
             (both (cost ex j) s

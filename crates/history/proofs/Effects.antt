@@ -174,7 +174,12 @@ quiet s t e w r c = record {
   tick-C = rw (e, c) same-tick;
   lists-R = rw e (λ h. h);
   lists-C = rw e (λ h. h);
-  keep = λ b. rw e record { shut = inl; alive = λ _. refl; held = λ _ _. record { number = refl; stage = omega arith; request = λ _. refl; commit = λ _. refl } };
+  keep = λ b. rw e record {
+    shut = inl;
+    alive = λ _. refl;
+    held = λ _ _.
+        record { number = refl; stage = omega arith; request = λ _. refl; commit = λ _. refl };
+  };
   begun = omega arith;
 }
 

@@ -61,7 +61,8 @@ begin-holds k w b t r = (
 -- a right answer to the Advance of such a client
 finishes : (s k : ℕ) (t : Table) → HoldsIn k (Looks s) t → (a : Answer Progress) → RightAdvance t k a → a ≡ Answered (Done s)
 finishes s k t h (Refused n) r = absurd (none-some r (h .1))
-finishes s k t h (Answered a) r = ap (λ (y : Progress). Answered y) (only a (subst (λ (o : Open). RightProgress t o a) (same-some (sym (r .found) ∙ h .1)) (r .progress)))
+finishes s k t h (Answered a) r = ap (λ (y : Progress). Answered y)
+    (only a (subst (λ (o : Open). RightProgress t o a) (same-some (sym (r .found) ∙ h .1)) (r .progress)))
   where
     only : (a : Progress) → RightProgress t (h .0) a → a ≡ Done s
     only (Stage g) p = absurd (h .2 .nothing (p .wrote (omega (arith, p .next, h .2 .stage))))

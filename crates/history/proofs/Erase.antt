@@ -90,7 +90,8 @@ choice : (b : Bool) (x y : PClient) → (if b then openClient x else openClient 
 choice true x y = refl
 choice false x y = refl
 
-put-client : (k : ℕ) (c : PClient) (o : Option Open) (cl : ℕ → PClient) → o ≡ openClient c → override k o (λ j. openClient (cl j)) ≡ (λ j. openClient (override k c cl j))
+put-client : (k : ℕ) (c : PClient) (o : Option Open) (cl : ℕ → PClient) → o ≡ openClient c
+    → override k o (λ j. openClient (cl j)) ≡ (λ j. openClient (override k c cl j))
 unfolding override
 put-client k c o cl e = fun-ext (λ j. rw e (choice (eqb j k) c (cl j)))
 
@@ -123,7 +124,8 @@ unfolding aged newerₚ
 drop-aged n [] = drop-all n [] (omega arith)
 drop-aged n (e ∷ l) =
     by-cases (decLe n (length l))
-    (λ h. drop-append-le n (aged l) (commitEntry e ∷ []) (omega (arith, length-aged l)) ∙ rw (drop-aged n l) (ap aged (sym (if-pos (decLe n (length l)) h (e ∷ newerₚ n l) []))))
+    (λ h. drop-append-le n (aged l) (commitEntry e ∷ []) (omega (arith, length-aged l)) ∙ rw (drop-aged n l)
+    (ap aged (sym (if-pos (decLe n (length l)) h (e ∷ newerₚ n l) []))))
     (λ h. drop-all n (aged l ++ (commitEntry e ∷ [])) (omega (arith, h, length-append (aged l) (commitEntry e ∷ []), length-aged l))
     ∙ ap aged (sym (if-neg (decLe n (length l)) h (e ∷ newerₚ n l) [])))
 
@@ -132,7 +134,8 @@ unfolding aged olderₚ
 take-aged n [] = take-all n [] (omega arith)
 take-aged n (e ∷ l) =
     by-cases (decLe n (length l))
-    (λ h. take-append-le n (aged l) (commitEntry e ∷ []) (omega (arith, length-aged l)) ∙ take-aged n l ∙ ap aged (sym (if-pos (decLe n (length l)) h (olderₚ n l) (e ∷ l))))
+    (λ h. take-append-le n (aged l) (commitEntry e ∷ []) (omega (arith, length-aged l)) ∙ take-aged n l ∙ ap aged
+    (sym (if-pos (decLe n (length l)) h (olderₚ n l) (e ∷ l))))
     (λ h. take-all n (aged l ++ (commitEntry e ∷ [])) (omega (arith, h, length-append (aged l) (commitEntry e ∷ []), length-aged l))
     ∙ ap aged (sym (if-neg (decLe n (length l)) h (olderₚ n l) (e ∷ l))))
 
@@ -157,7 +160,11 @@ module _ (p : Plain) (k : ℕ) where
   unfolding onStage onStageₚ erase aged commitEntry
   stage-feeds g l =
       by-cases (ℕ-discrete g 8)
-      (λ e. rw (eq-eqb g 8 e, if-pos (ℕ-discrete g 8) e (own.onNumberₚ p k) (ite (ℕ-discrete g 12) (own.onCommitₚ p k) (own.movedₚ p k g)), add-one (p .count))
+      (λ e. rw (
+        eq-eqb g 8 e,
+        if-pos (ℕ-discrete g 8) e (own.onNumberₚ p k) (ite (ℕ-discrete g 12) (own.onCommitₚ p k) (own.movedₚ p k g)),
+        add-one (p .count),
+      )
       (λ i. record {
         values = p .table;
         count = suc (p .count);
@@ -181,7 +188,13 @@ module _ (p : Plain) (k : ℕ) where
         clients = put-client k (restaged (p .cl k) g (p .cl k .commit)) _ (p .cl) (sym (live-some (restaged (p .cl k) g (p .cl k .commit)) l)) i;
       }))))
 
-  ends-feed : erase (own.onCloseₚ p k) ≡ record { values = p .table; count = p .count; book = aged (p .book); clients = override k none (λ j. openClient (p .cl j)) }
+  ends-feed : erase (own.onCloseₚ p k) ≡ record {
+    values = p .table;
+    count = p .count;
+    book = aged (p .book);
+    clients = override k none
+        (λ j. openClient (p .cl j));
+  }
   unfolding erase
   ends-feed = λ i. record {
     values = p .table;
@@ -197,7 +210,8 @@ module _ (bounds : Bounds) (w : ℕ) (p : Plain) where
     values = p .table;
     count = p .count;
     book = aged (p .book);
-    clients = (ap (λ (n : ℕ). override k (some (record { copy = p .table; since = n; writes = λ x. none; stage = 0; commit = 0 })) (λ j. openClient (p .cl j))) (length-aged (p .book))
+    clients = (ap (λ (n : ℕ). override k (some (record { copy = p .table; since = n; writes = λ x. none; stage = 0; commit = 0 }))
+        (λ j. openClient (p .cl j))) (length-aged (p .book))
         ∙ put-client k (opening p) _ (p .cl) (sym (live-some (opening p) refl))) i;
   }
   feeds (Begin k) (Refused n) free h = refl
@@ -228,8 +242,20 @@ module _ (p : Plain) (k : ℕ) where
   clash : (e : Commit) → Clash (erase p) (openOf (p .cl k)) e → (d : Entry) × (e ≡ commitEntry d) × own.Clashₚ p k d
   unfolding erase commitEntry
   clash e h =
-      let x = in-aged e (newerₚ (p .cl k .since) (p .book)) (rw (drop-aged (p .cl k .since) (p .book)) at (h .since)) in
-      (x .0, x .2, (x .1, (h .shares .0, has-some (x .0 .puts (h .shares .0)) (ap (λ (z : Commit). z .wrote (h .shares .0)) (sym (x .2)) ∙ h .shares .1), has-some (p .cl k .writes (h .shares .0)) (h .shares .2))))
+      let x = in-aged e (newerₚ (p .cl k .since) (p .book)) (rw (drop-aged (p .cl k .since) (p .book)) at (h .since)) in (
+        x .0,
+        x .2,
+        (
+          x .1,
+          (
+            h .shares .0,
+            has-some (x .0 .puts (h .shares .0))
+                (ap (λ (z : Commit). z .wrote (h .shares .0)) (sym (x .2)) ∙ h .shares .1),
+            has-some (p .cl k .writes (h .shares .0))
+                (h .shares .2),
+          ),
+        ),
+      )
 
   clash-back : (d : Entry) → own.Clashₚ p k d → Clash (erase p) (openOf (p .cl k)) (commitEntry d)
   unfolding erase commitEntry
@@ -258,7 +284,11 @@ module _ (p : Plain) (k : ℕ) where
     clash = clash-back (h .1 .0) (h .1 .2);
     smallest = λ e c. let x = clash e c in rw (x .1) (h .2 (x .0) (x .2));
   }
-  progress (Done n) (inl h) = inl record { from = h .0; number = h .1; booked = (commitEntry (h .2 .0), h .2 .2, aged-in (h .2 .0) (p .book) (h .2 .1)) }
+  progress (Done n) (inl h) = inl record {
+    from = h .0;
+    number = h .1;
+    booked = (commitEntry (h .2 .0), h .2 .2, aged-in (h .2 .0) (p .book) (h .2 .1));
+  }
   progress (Done n) (inr h) = inr record {
     from = h .0;
     nothing = λ w. h .1 (w .0, has-some (p .cl k .writes (w .0)) (w .1));
@@ -281,15 +311,32 @@ module _ (bounds : Bounds) (w W : ℕ) (issued : w ≡ suc W) (p : Plain) where
   right (Begin k) (Refused n) free h =
       subst (λ (z : ℕ). BeginRefusal z k (has (openClient (p .cl k))) n) (sym issued)
       (subst (λ (b : Bool). BeginRefusal (suc W) k b n) (sym (has-live (p .cl k))) h)
-  right (Read k x) (Answered v) free h = record { entry = openOf (p .cl k); found = live-some (p .cl k) (h .0); value = h .1; stage = h .2; cell = h .3 }
+  right (Read k x) (Answered v) free h = record {
+    entry = openOf (p .cl k);
+    found = live-some (p .cl k) (h .0);
+    value = h .1;
+    stage = h .2;
+    cell = h .3;
+  }
   right (Read k x) (Refused n) free h =
       λ o e. let y = some-live (p .cl k) o e in subst (λ (z : Open). ReadRefusal x (z .stage) n) (y .1) (h (y .0))
-  right (Write k x v) (Answered n) free h = record { entry = openOf (p .cl k); found = live-some (p .cl k) (h .0); allowed = h .1; figure = same-figure (h .2) }
+  right (Write k x v) (Answered n) free h = record {
+    entry = openOf (p .cl k);
+    found = live-some (p .cl k) (h .0);
+    allowed = h .1;
+    figure = same-figure (h .2);
+  }
   right (Write k x v) (Refused n) free h =
-      λ o e. let y = some-live (p .cl k) o e in subst (λ (z : Open). WriteRefusal (bounds .limit) (z .stage) (z .writes) x v (Answered free) n) (y .1) (h (y .0))
+      λ o e. let y = some-live (p .cl k) o e in subst (λ (z : Open). WriteRefusal (bounds .limit) (z .stage) (z .writes) x v (Answered free)
+      n) (y .1) (h (y .0))
   right (Advance k) (Answered a) free h = record { entry = openOf (p .cl k); found = live-some (p .cl k) (h .0); progress = progress p k a (h .1) }
   right (Advance k) (Refused n) free h = dead-none (p .cl k) h
-  right (Abandon k) (Answered n) free h = record { entry = openOf (p .cl k); found = live-some (p .cl k) (h .0); stage = h .1; figure = same-figure (h .2) }
+  right (Abandon k) (Answered n) free h = record {
+    entry = openOf (p .cl k);
+    found = live-some (p .cl k) (h .0);
+    stage = h .1;
+    figure = same-figure (h .2);
+  }
   right (Abandon k) (Refused n) free h =
       λ o e. let y = some-live (p .cl k) o e in subst (λ (z : Open). AbandonRefusal (z .stage) n) (y .1) (h (y .0))
   right Trim (Answered n) free h =

@@ -90,7 +90,8 @@ pub record Tab (dat : List DRow) (comm : List CRow) (last W : ℕ) (table : ℕ 
   pub row-cell : (r : DRow) → In r dat → r .cell < cells
   pub uniq : Uniq dat
   -- the rows and the book
-  pub sound : (r : DRow) (n : ℕ) → In r dat → numOf (r .tag) comm ≡ some n → (e : Entry) × In e book × (e .number ≡ n) × (e .puts (r .cell) ≡ some (r .value))
+  pub sound : (r : DRow) (n : ℕ) → In r dat → numOf (r .tag) comm ≡ some n
+      → (e : Entry) × In e book × (e .number ≡ n) × (e .puts (r .cell) ≡ some (r .value))
   pub kept : (e : Entry) (x : ℕ) → In e book → IsSome (e .puts x) → RowOf dat comm (e .number) x ⊎ Superseded book last v e x
   pub rising : RisingBook book
   pub book-last : lastOfₚ book ≡ last

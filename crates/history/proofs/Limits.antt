@@ -47,7 +47,8 @@ module _ (o : Open) (x : ℕ) (v : Value) where
             arith,
             h,
             valued-same cells (override x (some v) w) w (λ y _.
-                by-cases (ℕ-discrete y x) (λ q. ap (λ (z : ℕ). has (override x (some v) w z)) q ∙ here ∙ sym e ∙ ap (λ (z : ℕ). has (w z)) (sym q)) (elsewhere y)),
+                by-cases (ℕ-discrete y x) (λ q. ap (λ (z : ℕ). has (override x (some v) w z)) q ∙ here ∙ sym e ∙ ap (λ (z : ℕ). has (w z))
+                (sym q)) (elsewhere y)),
           )
       go false e = omega (arith, a .fewer e, valued-more cells (override x (some v) w) w x (a .may .cell) here e elsewhere)
 
@@ -55,7 +56,8 @@ module _ (o : Open) (x : ℕ) (v : Value) where
 
 module _ (limit : ℕ) (t : Table) (h : Capped limit t) where
   -- client k's entry is replaced
-  entry : (k : ℕ) (a : Option Open) → ((o : Open) → a ≡ some o → Within limit o) → (j : ℕ) (o : Open) → override k a (t .clients) j ≡ some o → Within limit o
+  entry : (k : ℕ) (a : Option Open) → ((o : Open) → a ≡ some o → Within limit o) → (j : ℕ) (o : Open) → override k a (t .clients) j ≡ some o
+      → Within limit o
   entry k a g j o e =
       by-cases (ℕ-discrete j k)
       (λ q. g o (sym (put-same k a (t .clients)) ∙ ap (override k a (t .clients)) (sym q) ∙ e))
@@ -78,7 +80,8 @@ call-capped : (n : Bounds) (w : ℕ) (t : Table) (q : Call) (a : Answer (Observe
     → Capped (n .limit) (update q a t)
 unfolding update
 call-capped n w t q (Refused m) next r h = h
-call-capped n w t (Begin k) (Answered a) next r h = open-capped (n .limit) t h k (newlyOpen t) (omega (arith, valued-none cells unwritten (λ x. refl)))
+call-capped n w t (Begin k) (Answered a) next r h = open-capped (n .limit) t h k (newlyOpen t)
+    (omega (arith, valued-none cells unwritten (λ x. refl)))
 call-capped n w t (Read k x) (Answered a) next r h = h
 call-capped n w t (Write k x v) (Answered a) next r h =
     rw (r .found) (open-capped (n .limit) t h k _ (still-within (r .entry) x v (n .limit) (r .allowed) (h k (r .entry) (r .found))))

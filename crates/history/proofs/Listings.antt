@@ -106,7 +106,8 @@ listing-past : (ph : ℕ → ℕ) {P : ℕ → Type 0} (rel? : (b : ℕ) → Dec
 unfolding listing
 listing-past ph rel? a i h = if-neg (decLt i clients) (λ k. omega arith) _ _
 
-listing-is : (ph : ℕ → ℕ) {P : ℕ → Type 0} (rel? : (b : ℕ) → Dec (P b)) (k j : ℕ) (u v : Bool) → j < clients → says (decLe 1 (ph j)) ≡ u → says (rel? j) ≡ v
+listing-is : (ph : ℕ → ℕ) {P : ℕ → Type 0} (rel? : (b : ℕ) → Dec (P b)) (k j : ℕ) (u v : Bool) → j < clients → says (decLe 1 (ph j)) ≡ u
+    → says (rel? j) ≡ v
     → listing ph rel? k j ≡ ((not (eqb j k) && u) && v)
 unfolding listing
 listing-is ph rel? k j u v h e f =
@@ -135,7 +136,8 @@ module _ (q : Queue) (ph : ℕ → ℕ) (phased : Phased q ph) (i : Image) (k : 
   unfolding others
   others-view =
       collect-view (λ j. not (eqb j k) && queued q (stageOf i j)) (listing (λ b. ph (stageOf i b)) {P = λ _. Unit {0}} (λ _. yes tt) k)
-      (λ j l. listing-is (λ b. ph (stageOf i b)) {P = λ _. Unit {0}} (λ _. yes tt) k j (queued q (stageOf i j)) true l (phased .within (stageOf i j) (known j)) refl ∙ and-true _)
+      (λ j l. listing-is (λ b. ph (stageOf i b)) {P = λ _. Unit {0}} (λ _. yes tt) k j (queued q (stageOf i j)) true l
+      (phased .within (stageOf i j) (known j)) refl ∙ and-true _)
       (λ j l. listing-past (λ b. ph (stageOf i b)) {P = λ _. Unit {0}} (λ _. yes tt) k j l)
 
   -- those of them that pass a test
@@ -143,7 +145,8 @@ module _ (q : Queue) (ph : ℕ → ℕ) (phased : Phased q ph) (i : Image) (k : 
       → member (collect (λ j. member (others q k i) j && p j) clients) ≡ listing (λ b. ph (stageOf i b)) rel? k
   some-view p rel? h =
       collect-view (λ j. member (others q k i) j && p j) (listing (λ b. ph (stageOf i b)) rel? k)
-      (λ j l. listing-is (λ b. ph (stageOf i b)) rel? k j (queued q (stageOf i j)) (p j) l (phased .within (stageOf i j) (known j)) (h j) ∙ rw (others-at j l))
+      (λ j l. listing-is (λ b. ph (stageOf i b)) rel? k j (queued q (stageOf i j)) (p j) l (phased .within (stageOf i j) (known j)) (h j) ∙
+      rw (others-at j l))
       (λ j l. listing-past (λ b. ph (stageOf i b)) rel? k j l)
 
 -- ---- a look
@@ -151,7 +154,8 @@ module _ (q : Queue) (ph : ℕ → ℕ) (phased : Phased q ph) (i : Image) (k : 
 look-past : (ph num : ℕ → ℕ) (a : ℕ) (w : ℕ → Bool) (i : ℕ) → w i ≡ false → look ph num a w i ≡ false
 unfolding look
 look-past ph num a w i e =
-    ite-elim (λ x. x ≡ false) (decLe 1 (ph i)) (λ _. ite-elim (λ x. x ≡ false) (decLe 3 (ph i)) (λ _. ite-elim (λ x. x ≡ false) (decLt (num a) (num i)) (λ _. refl) (λ _. e)) (λ _. e)) (λ _. refl)
+    ite-elim (λ x. x ≡ false) (decLe 1 (ph i)) (λ _. ite-elim (λ x. x ≡ false) (decLe 3 (ph i))
+    (λ _. ite-elim (λ x. x ≡ false) (decLt (num a) (num i)) (λ _. refl) (λ _. e)) (λ _. e)) (λ _. refl)
 
 module _ (q : Queue) (ph : ℕ → ℕ) (phased : Phased q ph) (g n : ℕ → ℕ) (known : (j : ℕ) → g j ≤ 13) (a s : ℕ) (few : s < 2 ^ clients) where
   struck-look : (j : ℕ) → (if struck q (n a) (g j) (n j) then false else member s j) ≡ look (λ b. ph (g b)) n a (member s) j
@@ -159,10 +163,18 @@ module _ (q : Queue) (ph : ℕ → ℕ) (phased : Phased q ph) (g n : ℕ → �
   struck-look j =
       let e = phased .within (g j) (known j) in
       by-cases (decLe 1 (ph (g j)))
-      (λ h. rw (sym e ∙ says-yes (decLe 1 (ph (g j))) h, if-pos (decLe 1 (ph (g j))) h (ite (decLe 3 (ph (g j))) (ite (decLt (n a) (n j)) false (member s j)) (member s j)) false)
+      (λ h. rw (
+        sym e ∙ says-yes (decLe 1 (ph (g j))) h,
+        if-pos (decLe 1 (ph (g j))) h
+            (ite (decLe 3 (ph (g j))) (ite (decLt (n a) (n j)) false (member s j)) (member s j)) false,
+      )
       (let f = phased .noted (g j) (known j) h in
       by-cases (decLe 3 (ph (g j)))
-      (λ k. rw (not-true (ltb (g j) (q .noted)) (sym f ∙ says-yes (decLe 3 (ph (g j))) k), if-pos (decLe 3 (ph (g j))) k (ite (decLt (n a) (n j)) false (member s j)) (member s j))
+      (λ k. rw (
+        not-true (ltb (g j) (q .noted)) (sym f ∙ says-yes (decLe 3 (ph (g j))) k),
+        if-pos (decLe 3 (ph (g j))) k
+            (ite (decLt (n a) (n j)) false (member s j)) (member s j),
+      )
       (by-cases (decLt (n a) (n j))
       (λ p. rw (lt-ltb (n a) (n j) p) (sym (if-pos (decLt (n a) (n j)) p false (member s j))))
       (λ p. rw (le-ltb (n a) (n j) (omega (arith, p))) (sym (if-neg (decLt (n a) (n j)) p false (member s j))))))

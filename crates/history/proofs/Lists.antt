@@ -174,7 +174,8 @@ module _ {A : Type 0} (R : ℕ → ℕ → Type 0) (worse? : (n m : ℕ) → Dec
     where
       go : (n : ℕ) (o : Option (ℕ × A)) → better (some n) b o ≡ none → ⊥
       go n none e = none-some e refl
-      go n (some w) e = ite-elim (λ x. x ≡ none → ⊥) {a = some w} {b = some (n, b)} (worse? n (w .0)) (λ _ q. none-some q refl) (λ _ q. none-some q refl) e
+      go n (some w) e = ite-elim (λ x. x ≡ none → ⊥) {a = some w} {b = some (n, b)} (worse? n (w .0)) (λ _ q. none-some q refl)
+          (λ _ q. none-some q refl) e
 
   pub record Best (k : A → Option ℕ) (l : List A) (n : ℕ) (a : A) : Type 0 where
     pub within : In a l
@@ -189,7 +190,8 @@ module _ {A : Type 0} (R : ℕ → ℕ → Type 0) (worse? : (n m : ℕ) → Dec
         option-case (k b)
         (λ h. let r = best-some k l w (rw h at e) in cons w (there (r .within)) (r .key) (λ m q _. none-some h q) (r .top))
         (λ n h. option-case (best k l)
-        (λ h2. to (n, b) (rw h2 at (rw h at e)) (cons (n, b) (here refl) h (λ m q x. asym n m x (irr h q x)) (λ a m i q _. none-some (best-none k l a h2 i) q)))
+        (λ h2. to (n, b) (rw h2 at (rw h at e)) (cons (n, b) (here refl) h (λ m q x. asym n m x (irr h q x))
+        (λ a m i q _. none-some (best-none k l a h2 i) q)))
         (λ u h2. let r = best-some k l u h2 in
         (ite-elim (λ x. x ≡ some w → Best k (b ∷ l) (w .0) (w .1)) {a = some u} {b = some (n, b)} (worse? n (u .0))
         (λ p q. to u q (cons u (there (r .within)) (r .key) (λ m z x. asym n (u .0) p (subst (R (u .0)) (eq z h) x)) (r .top)))

@@ -26,7 +26,8 @@ sift-some : {P : ℕ → Type 0} (d : (n : ℕ) → Dec (P n)) (o : Option ℕ) 
 unfolding sift
 sift-some d none n e = absurd (none-some refl e)
 sift-some {P} d (some m) n e =
-    (ite-elim (λ o. o ≡ some n → (some m ≡ some n) × P n) (d m) (λ p q. (q, subst P (Option·some-injective m n q) p)) (λ _ q. absurd (none-some refl q))) e
+    (ite-elim (λ o. o ≡ some n → (some m ≡ some n) × P n) (d m) (λ p q. (q, subst P (Option·some-injective m n q) p))
+    (λ _ q. absurd (none-some refl q))) e
 
 sift-is : {P : ℕ → Type 0} (d : (n : ℕ) → Dec (P n)) (o : Option ℕ) (n : ℕ) → o ≡ some n → P n → sift d o ≡ some n
 unfolding sift
@@ -42,13 +43,15 @@ read-is : (comm : List CRow) (x S : ℕ) (r : DRow) (n : ℕ) → r .cell ≡ x 
 unfolding readKey
 read-is comm x S r n e f h = if-pos (ℕ-discrete (r .cell) x) e _ _ ∙ sift-is (λ n. decLe n S) (numOf (r .tag) comm) n f h
 
-check-some : (d : List DRow) (comm : List CRow) (u S : ℕ) (r : DRow) (n : ℕ) → checkKey d comm u S r ≡ some n → IsSome (findₛ u (r .cell) d) × (numOf (r .tag) comm ≡ some n) × (S < n)
+check-some : (d : List DRow) (comm : List CRow) (u S : ℕ) (r : DRow) (n : ℕ) → checkKey d comm u S r ≡ some n
+    → IsSome (findₛ u (r .cell) d) × (numOf (r .tag) comm ≡ some n) × (S < n)
 unfolding checkKey
 check-some d comm u S r n =
     ite-elim (λ o. o ≡ some n → IsSome (findₛ u (r .cell) d) × (numOf (r .tag) comm ≡ some n) × (S < n)) (some? (findₛ u (r .cell) d))
     (λ e q. let h = sift-some (λ n. decLt S n) (numOf (r .tag) comm) n q in (e, h .0, h .1)) (λ _ q. absurd (none-some refl q))
 
-check-is : (d : List DRow) (comm : List CRow) (u S : ℕ) (r : DRow) (n : ℕ) → IsSome (findₛ u (r .cell) d) → numOf (r .tag) comm ≡ some n → S < n → checkKey d comm u S r ≡ some n
+check-is : (d : List DRow) (comm : List CRow) (u S : ℕ) (r : DRow) (n : ℕ) → IsSome (findₛ u (r .cell) d) → numOf (r .tag) comm ≡ some n
+    → S < n → checkKey d comm u S r ≡ some n
 unfolding checkKey
 check-is d comm u S r n e f h = if-pos (some? (findₛ u (r .cell) d)) e _ _ ∙ sift-is (λ n. decLt S n) (numOf (r .tag) comm) n f h
 
@@ -56,7 +59,8 @@ largest-some : (k : DRow → Option ℕ) (l : List DRow) (w : ℕ × DRow) → l
 unfolding largest
 largest-some k l w e = best-some (λ n m. n < m) (λ n m. decLt n m) (λ n m j p q r. omega arith) (λ n m p q. omega arith) k l w e
 
-smallest-some : (k : DRow → Option ℕ) (l : List DRow) (w : ℕ × DRow) → smallestₛ k l ≡ some w → Best (λ n m. m < n) (λ n m. decLt m n) k l (w .0) (w .1)
+smallest-some : (k : DRow → Option ℕ) (l : List DRow) (w : ℕ × DRow) → smallestₛ k l ≡ some w
+    → Best (λ n m. m < n) (λ n m. decLt m n) k l (w .0) (w .1)
 unfolding smallestₛ
 smallest-some k l w e = best-some (λ n m. m < n) (λ n m. decLt m n) (λ n m j p q r. omega arith) (λ n m p q. omega arith) k l w e
 
@@ -73,7 +77,8 @@ module _ {dat : List DRow} {comm : List CRow} {last W : ℕ} {table : ℕ → Op
   read-right x = option-case (largest key dat)
       (λ q. rw q (option-case (valuesUpTo S book x) (λ z. sym z)
       (λ w z. let e = upTo-some S book (t .rising) x w z in let k = shown x w e in
-      absurd (none-some (best-none (λ n m. n < m) (λ n m. decLt n m) key dat (k .0) q (k .1)) (read-is comm x S (k .0) (e .entry .number) (k .2) (k .3) (e .below))))))
+      absurd (none-some (best-none (λ n m. n < m) (λ n m. decLt n m) key dat (k .0) q (k .1))
+      (read-is comm x S (k .0) (e .entry .number) (k .2) (k .3) (e .below))))))
       (λ w q. rw q (found w (largest-some key dat w q)))
     where
       S : ℕ
@@ -112,7 +117,8 @@ module _ {dat : List DRow} {comm : List CRow} {last W : ℕ} {table : ℕ → Op
         (λ d. absurd (omega (arith, d .2, d .5 a isopen, n .1)))
         (t .kept e (h .0) (n .0) (h .1))
 
-    pub check-none : smallestₛ (checkKey dat comm (v a .num) (v a .snap)) dat ≡ none → (e : Entry) → In e (newerₚ (v a .since) book) → Sharesₚ (e .puts) (v a .writes) → ⊥
+    pub check-none : smallestₛ (checkKey dat comm (v a .num) (v a .snap)) dat ≡ none → (e : Entry) → In e (newerₚ (v a .since) book)
+        → Sharesₚ (e .puts) (v a .writes) → ⊥
     unfolding smallestₛ
     check-none q e i h =
         let r = clash-row e i h in
@@ -146,7 +152,8 @@ abbrev Spread : List DRow → Type 0
 Spread [] = Unit {0}
 Spread (r ∷ l) = ((r′ : DRow) → In r′ l → r′ .cell ≡ r .cell → ⊥) × Spread l
 
-count-cells : (n : ℕ) (l : List DRow) (f : ℕ → Option Value) → ((r : DRow) → In r l → r .cell < n) → Spread l → ((r : DRow) → In r l → IsSome (f (r .cell)))
+count-cells : (n : ℕ) (l : List DRow) (f : ℕ → Option Value) → ((r : DRow) → In r l → r .cell < n) → Spread l
+    → ((r : DRow) → In r l → IsSome (f (r .cell)))
     → ((x : ℕ) → IsSome (f x) → (r : DRow) × In r l × (r .cell ≡ x)) → length l ≡ valued n f
 count-cells n [] f below spread has row = sym (valued-none n f (λ x. none-has (f x) (λ h. in-nil (row x h .1))))
 count-cells n (r ∷ l) f below spread has row =
@@ -200,7 +207,8 @@ module _ {dat : List DRow} {comm : List CRow} {last W : ℕ} {table : ℕ → Op
       (λ w z. rw z tt))
       (λ x h. let w = is-some (table x) h in
       let e = upTo-some last book (t .rising) x (w .0) (sym (by-upTo x) ∙ w .1) in
-      ⊎-elim (λ k. (k .0, k .1, k .2)) (λ d. absurd (omega (arith, d .2, e .last (d .0) (d .1) (d .4) (d .3)))) (after .kept (e .entry) x (e .within) (rw (e .puts) tt)))
+      ⊎-elim (λ k. (k .0, k .1, k .2)) (λ d. absurd (omega (arith, d .2, e .last (d .0) (d .1) (d .4) (d .3))))
+      (after .kept (e .entry) x (e .within) (rw (e .puts) tt)))
     where
       all-le : (e : Entry) → In e book → e .number ≤ last
       all-le e i = omega (arith, book-max book (t .rising) e i, t .book-last)

@@ -62,7 +62,8 @@ module _ (s : State) (u : Under-state s) where
   shifted : (t a : ℕ) → a < clients → (d : Client) (f : Client → Client) → Tame a f
       → sum clients (λ b. early t (putₛ a d f (s .cl) b)) + early t (s .cl a) ≡ sum clients (λ b. early t (s .cl b)) + early t d
   shifted t a h d f m =
-      sum-put clients a (λ b. early t (putₛ a d f (s .cl) b)) (λ b. early t (s .cl b)) h (λ b n. ap (early t) (put-off a d f (s .cl) b n) ∙ early-tame t a f m (s .cl b))
+      sum-put clients a (λ b. early t (putₛ a d f (s .cl) b)) (λ b. early t (s .cl b)) h
+      (λ b n. ap (early t) (put-off a d f (s .cl) b n) ∙ early-tame t a f m (s .cl b))
       ∙ ap (λ (z : Client). sum clients (λ b. early t (s .cl b)) + early t z) (put-at a d f (s .cl))
 
   moved : (a : ℕ) → a < clients → (d : Client) (f : Client → Client) → Tame a f → (R C W : ℕ)
@@ -70,12 +71,15 @@ module _ (s : State) (u : Under-state s) where
   moved a h d f m R C W p q = record { r = omega (arith, p, u .r, shifted 1 a h d f m); c = omega (arith, q, u .c, shifted 7 a h d f m) }
 
   -- its stage rises, or it is closed
-  later : (a : ℕ) → a < clients → (d : Client) (f : Client → Client) → Tame a f → d .number ≡ s .cl a .number → s .cl a .stage ≤ d .stage → Under (s .R) (s .C) (s .W) (putₛ a d f (s .cl))
-  later a h d f m e l = moved a h d f m (s .R) (s .C) (s .W) (omega (arith, early-later 1 d (s .cl a) e l)) (omega (arith, early-later 7 d (s .cl a) e l))
+  later : (a : ℕ) → a < clients → (d : Client) (f : Client → Client) → Tame a f → d .number ≡ s .cl a .number → s .cl a .stage ≤ d .stage
+      → Under (s .R) (s .C) (s .W) (putₛ a d f (s .cl))
+  later a h d f m e l = moved a h d f m (s .R) (s .C) (s .W) (omega (arith, early-later 1 d (s .cl a) e l))
+      (omega (arith, early-later 7 d (s .cl a) e l))
 
   gone : (a : ℕ) → a < clients → Under (s .R) (s .C) (s .W) (putₛ a closedₛ (clearBoth a) (s .cl))
   unfolding closedₛ
-  gone a h = moved a h closedₛ (clearBoth a) (tame-both a) (s .R) (s .C) (s .W) (omega (arith, early-shut 1 closedₛ refl)) (omega (arith, early-shut 7 closedₛ refl))
+  gone a h = moved a h closedₛ (clearBoth a) (tame-both a) (s .R) (s .C) (s .W) (omega (arith, early-shut 1 closedₛ refl))
+      (omega (arith, early-shut 7 closedₛ refl))
 
   pub keeps : {c : Call} {x : Out (Answer (Observed c))} → Transition s c x → Under-state (x .state)
   unfolding begunₛ overwritten addedₛ trimmedₛ takeR takeC listR listC lookR lookC checkedₛ committed
@@ -99,10 +103,12 @@ module _ (s : State) (u : Under-state s) where
   keeps (at2 a h op e) = later a h (atStageₛ (s .cl a) 3) same (tame-same a) refl (omega arith)
   keeps (at3 a h op e) = later a h _ same (tame-same a) refl (omega arith)
   keeps (at4 a h op e) =
-      ite-elim (λ (x : Out (Answer Progress)). Under-state (x .state)) (ℕ-discrete (listSize clients (look (rph s) (λ b. s .cl b .request) a (s .cl a .rwait))) 0)
+      ite-elim (λ (x : Out (Answer Progress)). Under-state (x .state))
+      (ℕ-discrete (listSize clients (look (rph s) (λ b. s .cl b .request) a (s .cl a .rwait))) 0)
       (λ _. later a h _ same (tame-same a) refl (omega arith)) (λ _. later a h _ same (tame-same a) refl (omega arith))
   keeps (at5 a h op e) =
-      option-case (smallestₛ (checkKey (s .dat) (s .comm) (s .cl a .number) (s .cl a .snapshot)) (s .dat)) (λ q. rw q (later a h (atStageₛ (s .cl a) 6) same (tame-same a) refl (omega arith))) (λ x q. rw q (gone a h))
+      option-case (smallestₛ (checkKey (s .dat) (s .comm) (s .cl a .number) (s .cl a .snapshot)) (s .dat))
+      (λ q. rw q (later a h (atStageₛ (s .cl a) 6) same (tame-same a) refl (omega arith))) (λ x q. rw q (gone a h))
   keeps (at6 a h op e) = later a h (atStageₛ (s .cl a) 7) same (tame-same a) refl (omega arith)
   keeps (at7 a h op e) =
       moved a h (withCommit (s .cl a) 8 (suc (s .C))) same (tame-same a) (s .R) (suc (s .C)) (s .W)
@@ -111,7 +117,8 @@ module _ (s : State) (u : Under-state s) where
   keeps (at8 a h op e) = later a h (atStageₛ (s .cl a) 9) same (tame-same a) refl (omega arith)
   keeps (at9 a h op e) = later a h _ same (tame-same a) refl (omega arith)
   keeps (at10 a h op e) =
-      ite-elim (λ (x : Out (Answer Progress)). Under-state (x .state)) (ℕ-discrete (listSize clients (look (cph s) (λ b. s .cl b .commit) a (s .cl a .cwait))) 0)
+      ite-elim (λ (x : Out (Answer Progress)). Under-state (x .state))
+      (ℕ-discrete (listSize clients (look (cph s) (λ b. s .cl b .commit) a (s .cl a .cwait))) 0)
       (λ _. later a h _ same (tame-same a) refl (omega arith)) (λ _. later a h _ same (tame-same a) refl (omega arith))
   keeps (at11 a h op e) = later a h (atStageₛ (s .cl a) 12) same (tame-same a) refl (omega arith)
   keeps (at12 a h op e) = later a h (atStageₛ (clearC a (s .cl a)) 13) (clearC a) (tame-C a) refl (omega arith)

@@ -92,10 +92,26 @@ abbrev pub same : Client → Client
 same c = c
 
 abbrev pub clearC : ℕ → Client → Client
-clearC a c = record { number = c .number; stage = c .stage; snapshot = c .snapshot; request = c .request; commit = c .commit; rwait = c .rwait; cwait = clear a (c .cwait) }
+clearC a c = record {
+  number = c .number;
+  stage = c .stage;
+  snapshot = c .snapshot;
+  request = c .request;
+  commit = c .commit;
+  rwait = c .rwait;
+  cwait = clear a (c .cwait);
+}
 
 abbrev pub clearBoth : ℕ → Client → Client
-clearBoth a c = record { number = c .number; stage = c .stage; snapshot = c .snapshot; request = c .request; commit = c .commit; rwait = clear a (c .rwait); cwait = clear a (c .cwait) }
+clearBoth a c = record {
+  number = c .number;
+  stage = c .stage;
+  snapshot = c .snapshot;
+  request = c .request;
+  commit = c .commit;
+  rwait = clear a (c .rwait);
+  cwait = clear a (c .cwait);
+}
 
 -- the phase in each queue, by the stage
 unfoldable pub rphase : ℕ → ℕ
@@ -161,11 +177,13 @@ lowₛ s = default (s .last) (snapshots clients (s .cl))
 
 -- a committed data row that trim drops: its cell has another with a larger commit number that is at most l
 abbrev pub Passed : List DRow → List CRow → ℕ → DRow → Type 0
-Passed d comm l r = On (λ n. (r′ : DRow) × In r′ d × ((r′ .cell ≡ r .cell) × On (λ m. (n < m) × (m ≤ l)) (numOf (r′ .tag) comm))) (numOf (r .tag) comm)
+Passed d comm l r = On (λ n. (r′ : DRow) × In r′ d × ((r′ .cell ≡ r .cell) × On (λ m. (n < m) × (m ≤ l)) (numOf (r′ .tag) comm)))
+    (numOf (r .tag) comm)
 
 unfoldable pub passed? : (d : List DRow) (comm : List CRow) (l : ℕ) (r : DRow) → Dec (Passed d comm l r)
 passed? d comm l r =
-    on? (λ n. any? (λ r′. Dec·and (ℕ-discrete (r′ .cell) (r .cell)) (on? (λ m. Dec·and (decLt n m) (decLe m l)) (numOf (r′ .tag) comm))) d) (numOf (r .tag) comm)
+    on? (λ n. any? (λ r′. Dec·and (ℕ-discrete (r′ .cell) (r .cell)) (on? (λ m. Dec·and (decLt n m) (decLe m l)) (numOf (r′ .tag) comm))) d)
+    (numOf (r .tag) comm)
 
 -- a committed row without a data row
 abbrev Bare : List DRow → CRow → Type 0
@@ -191,19 +209,59 @@ abbrev pub withData : State → List DRow → (ℕ → Client) → State
 withData s d cl = record { bounds = s .bounds; W = s .W; R = s .R; C = s .C; last = s .last; dat = d; comm = s .comm; cl = cl }
 
 abbrev pub atStageₛ : Client → ℕ → Client
-atStageₛ c k = record { number = c .number; stage = k; snapshot = c .snapshot; request = c .request; commit = c .commit; rwait = c .rwait; cwait = c .cwait }
+atStageₛ c k = record {
+  number = c .number;
+  stage = k;
+  snapshot = c .snapshot;
+  request = c .request;
+  commit = c .commit;
+  rwait = c .rwait;
+  cwait = c .cwait;
+}
 
 abbrev pub withRequest : Client → ℕ → ℕ → Client
-withRequest c k r = record { number = c .number; stage = k; snapshot = c .snapshot; request = r; commit = c .commit; rwait = c .rwait; cwait = c .cwait }
+withRequest c k r = record {
+  number = c .number;
+  stage = k;
+  snapshot = c .snapshot;
+  request = r;
+  commit = c .commit;
+  rwait = c .rwait;
+  cwait = c .cwait;
+}
 
 abbrev pub withCommit : Client → ℕ → ℕ → Client
-withCommit c k n = record { number = c .number; stage = k; snapshot = c .snapshot; request = c .request; commit = n; rwait = c .rwait; cwait = c .cwait }
+withCommit c k n = record {
+  number = c .number;
+  stage = k;
+  snapshot = c .snapshot;
+  request = c .request;
+  commit = n;
+  rwait = c .rwait;
+  cwait = c .cwait;
+}
 
 abbrev pub withRwait : Client → ℕ → (ℕ → Bool) → Client
-withRwait c k w = record { number = c .number; stage = k; snapshot = c .snapshot; request = c .request; commit = c .commit; rwait = w; cwait = c .cwait }
+withRwait c k w = record {
+  number = c .number;
+  stage = k;
+  snapshot = c .snapshot;
+  request = c .request;
+  commit = c .commit;
+  rwait = w;
+  cwait = c .cwait;
+}
 
 abbrev pub withCwait : Client → ℕ → (ℕ → Bool) → Client
-withCwait c k w = record { number = c .number; stage = k; snapshot = c .snapshot; request = c .request; commit = c .commit; rwait = c .rwait; cwait = w }
+withCwait c k w = record {
+  number = c .number;
+  stage = k;
+  snapshot = c .snapshot;
+  request = c .request;
+  commit = c .commit;
+  rwait = c .rwait;
+  cwait = w;
+}
 
 -- client a becomes c, nothing else changes
 abbrev pub move : State → ℕ → Client → State
@@ -215,7 +273,17 @@ newcomer s = record { number = suc (s .W); stage = 0; snapshot = s .last; reques
 
 unfoldable pub begunₛ : State → ℕ → Out (Answer Begun)
 begunₛ s a = out
-    record { bounds = s .bounds; W = suc (s .W); R = s .R; C = s .C; last = s .last; dat = s .dat; comm = s .comm; cl = putₛ a (newcomer s) same (s .cl) }
+    record {
+      bounds = s .bounds;
+      W = suc (s .W);
+      R = s .R;
+      C = s .C;
+      last = s .last;
+      dat = s .dat;
+      comm = s .comm;
+      cl = putₛ a (newcomer s)
+          same (s .cl);
+    }
     (Answered (record { number = suc (s .W); snapshot = s .last }))
 
 unfoldable pub freeₛ : State → ℕ
@@ -248,16 +316,37 @@ step-to s a k = out (move s a (atStageₛ (s .cl a) k)) (Answered (Stage k))
 
 unfoldable pub takeR : State → ℕ → Out (Answer Progress)
 takeR s a = out
-    record { bounds = s .bounds; W = s .W; R = suc (s .R); C = s .C; last = s .last; dat = s .dat; comm = s .comm; cl = putₛ a (withRequest (s .cl a) 2 (suc (s .R))) same (s .cl) }
+    record {
+      bounds = s .bounds;
+      W = s .W;
+      R = suc (s .R);
+      C = s .C;
+      last = s .last;
+      dat = s .dat;
+      comm = s .comm;
+      cl = putₛ a
+          (withRequest (s .cl a) 2 (suc (s .R))) same (s .cl);
+    }
     (Answered (Stage 2))
 
 unfoldable pub takeC : State → ℕ → Out (Answer Progress)
 takeC s a = out
-    record { bounds = s .bounds; W = s .W; R = s .R; C = suc (s .C); last = s .last; dat = s .dat; comm = s .comm; cl = putₛ a (withCommit (s .cl a) 8 (suc (s .C))) same (s .cl) }
+    record {
+      bounds = s .bounds;
+      W = s .W;
+      R = s .R;
+      C = suc (s .C);
+      last = s .last;
+      dat = s .dat;
+      comm = s .comm;
+      cl = putₛ a
+          (withCommit (s .cl a) 8 (suc (s .C))) same (s .cl);
+    }
     (Answered (Stage 8))
 
 unfoldable pub listR : State → ℕ → Out (Answer Progress)
-listR s a = out (move s a (withRwait (s .cl a) 4 (listing (rph s) (λ b. sharing? (s .dat) (s .cl b .number) (s .cl a .number)) a))) (Answered (Stage 4))
+listR s a = out (move s a (withRwait (s .cl a) 4 (listing (rph s) (λ b. sharing? (s .dat) (s .cl b .number) (s .cl a .number)) a)))
+    (Answered (Stage 4))
 
 unfoldable pub listC : State → ℕ → Out (Answer Progress)
 listC s a = out (move s a (withCwait (s .cl a) 10 (listing (cph s) {P = λ _. Unit {0}} (λ _. yes tt) a))) (Answered (Stage 10))

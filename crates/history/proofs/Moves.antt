@@ -94,7 +94,8 @@ module _ (a : ℕ) (c : Client) (f : Client → Client) (tame : Tame a f) (cl : 
   off g h b n = ap g (put-off a c f cl b n) ∙ h (cl b)
 
   pub others-R : (dat dat′ : List DRow) {R R′ : ℕ} → R ≤ R′
-      → ((b : ℕ) → 2 ≤ rphase (putₛ a c f cl b .stage) → (x : ℕ) → IsSome (findₛ (putₛ a c f cl b .number) x dat′) → IsSome (findₛ (cl b .number) x dat))
+      → ((b : ℕ) → 2 ≤ rphase (putₛ a c f cl b .stage) → (x : ℕ) → IsSome (findₛ (putₛ a c f cl b .number) x dat′) → IsSome
+      (findₛ (cl b .number) x dat))
       → Others a (λ b. rphase (cl b .stage)) (λ b. cl b .request) (λ b. cl b .rwait) R (Rel dat cl)
       (λ b. rphase (putₛ a c f cl b .stage)) (λ b. putₛ a c f cl b .request) (λ b. putₛ a c f cl b .rwait) R′ (Rel dat′ (putₛ a c f cl))
   others-R dat dat′ h g = record {
@@ -124,16 +125,32 @@ pub seen-off : (a : ℕ) (c : Client) (f : Client → Client) → Tame a f → (
     → seenOf (putₛ a c f cl b) (setP a q pcl b) ≡ seenOf (cl b) (pcl b)
 seen-off a c f tame cl q pcl b n =
     rw (put-off a c f cl b n, setP-off a q pcl b n)
-    (λ i. record { num = tame .number (cl b) i; snap = tame .snapshot (cl b) i; late = lateness (tame .stage (cl b) i); since = pcl b .since; copy = pcl b .copy; writes = pcl b .writes })
+    (λ i. record {
+      num = tame .number (cl b) i;
+      snap = tame .snapshot (cl b) i;
+      late = lateness (tame .stage (cl b) i);
+      since = pcl
+          b .since;
+      copy = pcl b .copy;
+      writes = pcl b .writes;
+    })
 
-pub seen-at : (a : ℕ) (c : Client) (f : Client → Client) (cl : ℕ → Client) (q : PClient) (pcl : ℕ → PClient) → seenOf (putₛ a c f cl a) (setP a q pcl a) ≡ seenOf c q
+pub seen-at : (a : ℕ) (c : Client) (f : Client → Client) (cl : ℕ → Client) (q : PClient) (pcl : ℕ → PClient)
+    → seenOf (putₛ a c f cl a) (setP a q pcl a) ≡ seenOf c q
 seen-at a c f cl q pcl = rw (put-at a c f cl, setP-at a q pcl)
 
 -- A client other than a, by the plain table and the store.
-pub one-off : (a : ℕ) (c : Client) (f : Client → Client) → Tame a f → (cl : ℕ → Client) (q : PClient) (pcl : ℕ → PClient) (last : ℕ) (book : List Entry) (b : ℕ) → b ≢ a
+pub one-off : (a : ℕ) (c : Client) (f : Client → Client) → Tame a f
+    → (cl : ℕ → Client) (q : PClient) (pcl : ℕ → PClient) (last : ℕ) (book : List Entry) (b : ℕ) → b ≢ a
     → OneClient last book b (cl b .number) (cl b .stage) (cl b .commit) (pcl b)
     → OneClient last book b (putₛ a c f cl b .number) (putₛ a c f cl b .stage) (putₛ a c f cl b .commit) (setP a q pcl b)
-one-off a c f tame cl q pcl last book b n h = rw (put-off a c f cl b n, setP-off a q pcl b n, tame .number (cl b), tame .stage (cl b), tame .commit (cl b)) h
+one-off a c f tame cl q pcl last book b n h = rw (
+  put-off a c f cl b n,
+  setP-off a q pcl b n,
+  tame .number (cl b),
+  tame .stage (cl b),
+  tame .commit (cl b),
+) h
 
 abbrev rewound : Plain → ℕ → (ℕ → PClient) → Plain
 rewound p n cl = record { table = p .table; count = n; book = p .book; cl = cl }
@@ -141,7 +158,8 @@ rewound p n cl = record { table = p .table; count = n; book = p .book; cl = cl }
 abbrev pub stepped : State → ℕ → ℕ → (ℕ → Client) → State
 stepped s R C cl = record { bounds = s .bounds; W = s .W; R = R; C = C; last = s .last; dat = s .dat; comm = s .comm; cl = cl }
 
-module _ {bounds : Bounds} {s : State} {p : Plain} (inv : Inv bounds s p) (a : ℕ) (c : Client) (f : Client → Client) (tame : Tame a f) (R C m n : ℕ) (counted : m ≡ C) (pcl : ℕ → PClient)
+module _ {bounds : Bounds} {s : State} {p : Plain} (inv : Inv bounds s p) (a : ℕ) (c : Client) (f : Client → Client) (tame : Tame a f)
+    (R C m n : ℕ) (counted : m ≡ C) (pcl : ℕ → PClient)
     (at : pcl a ≡ restaged (p .cl a) (c .stage) n) (else : (b : ℕ) → b ≢ a → pcl b ≡ p .cl b)
     (number : c .number ≡ s .cl a .number) (snapshot : c .snapshot ≡ s .cl a .snapshot) (late : lateness (c .stage) ≡ lateness (s .cl a .stage))
     (isopen : 1 ≤ s .cl a .number) where
@@ -149,11 +167,25 @@ module _ {bounds : Bounds} {s : State} {p : Plain} (inv : Inv bounds s p) (a : �
   same-view = fun-ext (each a (λ b. readerOf (stepped s R C (putₛ a c f (s .cl))) (rewound p m pcl) b ≡ readerOf s p b) this that)
     where
       this : readerOf (stepped s R C (putₛ a c f (s .cl))) (rewound p m pcl) a ≡ readerOf s p a
-      this = rw (put-at a c f (s .cl), at) (λ i. record { num = number i; snap = snapshot i; late = late i; since = p .cl a .since; copy = p .cl a .copy; writes = p .cl a .writes })
+      this = rw (put-at a c f (s .cl), at) (λ i. record {
+        num = number i;
+        snap = snapshot i;
+        late = late i;
+        since = p .cl a .since;
+        copy = p .cl a .copy;
+        writes = p .cl a .writes;
+      })
 
       that : (b : ℕ) → b ≢ a → readerOf (stepped s R C (putₛ a c f (s .cl))) (rewound p m pcl) b ≡ readerOf s p b
       that b n = rw (put-off a c f (s .cl) b n, else b n)
-          (λ i. record { num = tame .number (s .cl b) i; snap = tame .snapshot (s .cl b) i; late = lateness (tame .stage (s .cl b) i); since = p .cl b .since; copy = p .cl b .copy; writes = p .cl b .writes })
+          (λ i. record {
+            num = tame .number (s .cl b) i;
+            snap = tame .snapshot (s .cl b) i;
+            late = lateness (tame .stage (s .cl b) i);
+            since = p .cl b .since;
+            copy = p .cl b .copy;
+            writes = p .cl b .writes;
+          })
 
   pub moves : s .C ≤ C → RQ (stepped s R C (putₛ a c f (s .cl))) → CQ (stepped s R C (putₛ a c f (s .cl)))
       → (8 ≤ c .stage → n ≡ c .commit)
@@ -165,7 +197,8 @@ module _ {bounds : Bounds} {s : State} {p : Plain} (inv : Inv bounds s p) (a : �
     same-bounds = inv .same-bounds;
     counted = counted;
     last-le = omega (arith, inv .last-le);
-    one = each a (λ b. OneClient (s .last) (p .book) b (putₛ a c f (s .cl) b .number) (putₛ a c f (s .cl) b .stage) (putₛ a c f (s .cl) b .commit) (pcl b))
+    one = each a (λ b. OneClient (s .last) (p .book) b (putₛ a c f (s .cl) b .number) (putₛ a c f (s .cl) b .stage)
+        (putₛ a c f (s .cl) b .commit) (pcl b))
         (rw (put-at a c f (s .cl), at, number) record {
           on-stage = refl;
           live = inv .one a .live;

@@ -97,7 +97,8 @@ module _ {s : State} where
       ite-elim (λ (x : Out (Answer Progress)). refusalIn (x .answer) ≢ unfit)
       (ℕ-discrete (listSize clients (look (rph s) (λ b. s .cl b .request) a (s .cl a .rwait))) 0) (λ _. omega arith) (λ _. omega arith)
   no-2 (at5 a h o e) =
-      option-case (smallestₛ (checkKey (s .dat) (s .comm) (s .cl a .number) (s .cl a .snapshot)) (s .dat)) (λ q. rw q (omega arith)) (λ w q. rw q (omega arith))
+      option-case (smallestₛ (checkKey (s .dat) (s .comm) (s .cl a .number) (s .cl a .snapshot)) (s .dat)) (λ q. rw q (omega arith))
+      (λ w q. rw q (omega arith))
   no-2 (at6 a h o e) = omega arith
   no-2 (at7 a h o e) = omega arith
   no-2 (at8 a h o e) = omega arith
@@ -144,14 +145,16 @@ module _ {s : State} {w : ℕ} (n : Numbered w (s .W)) where
   numbered (at2 a h o e) = n
   numbered (at3 a h o e) = n
   numbered (at4 a h o e) =
-      ite-elim (λ (x : Out (Answer Progress)). Numbered w (x .state .W)) (ℕ-discrete (listSize clients (look (rph s) (λ b. s .cl b .request) a (s .cl a .rwait))) 0) (λ _. n) (λ _. n)
+      ite-elim (λ (x : Out (Answer Progress)). Numbered w (x .state .W))
+      (ℕ-discrete (listSize clients (look (rph s) (λ b. s .cl b .request) a (s .cl a .rwait))) 0) (λ _. n) (λ _. n)
   numbered (at5 a h o e) = check-W s a w _ n
   numbered (at6 a h o e) = n
   numbered (at7 a h o e) = n
   numbered (at8 a h o e) = n
   numbered (at9 a h o e) = n
   numbered (at10 a h o e) =
-      ite-elim (λ (x : Out (Answer Progress)). Numbered w (x .state .W)) (ℕ-discrete (listSize clients (look (cph s) (λ b. s .cl b .commit) a (s .cl a .cwait))) 0) (λ _. n) (λ _. n)
+      ite-elim (λ (x : Out (Answer Progress)). Numbered w (x .state .W))
+      (ℕ-discrete (listSize clients (look (cph s) (λ b. s .cl b .commit) a (s .cl a .cwait))) 0) (λ _. n) (λ _. n)
   numbered (at11 a h o e) = n
   numbered (at12 a h o e) = n
   numbered (at13 a h o e) = n

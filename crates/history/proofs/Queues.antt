@@ -126,7 +126,8 @@ above-C : (k : ℕ) → 2 ≤ cphase k → 2 ≤ k
 above-C k h = omega (arith, in-C k (omega arith) .0)
 
 -- who holds a number in a line of at most n is gone when all numbers up to its own have drained
-module _ {n : ℕ} {q : Side} (line : Line n q) (ex : ℕ) (leaves : (s : Image) → Grown n s → (b m : ℕ) → Far q b m 5 s → Following n ex (Gone q b m) s) where
+module _ {n : ℕ} {q : Side} (line : Line n q) (ex : ℕ) (leaves : (s : Image) → Grown n s → (b m : ℕ) → Far q b m 5 s → Following n ex
+    (Gone q b m) s) where
   drained : (s : Image) → Grown n s → (b : ℕ) → 2 ≤ phase q s b → Following n (4 + n * suc ex) (Gone q b (ticket q s b)) s
   drained s g b h =
       let m : ℕ = ticket q s b in
@@ -191,7 +192,8 @@ module _ (n : ℕ) where
       (come-up (line-R n) above-R b m 5 (omega arith) (omega arith) s g (x .0, λ h. let y = x .1 h in omega arith))
       (come-up (line-R n) above-R b m 6 (omega arith) (omega arith)))
       (come-up (line-R n) above-R b m 7 (omega arith) (omega arith)))
-      (λ t i y. andThen (4 + n * 3) 1 (3 * n + 5) (omega arith) t i (through b m t i y) (come-up (line-R n) above-R b m 13 (omega arith) (omega arith))))
+      (λ t i y. andThen (4 + n * 3) 1 (3 * n + 5) (omega arith) t i (through b m t i y)
+      (come-up (line-R n) above-R b m 13 (omega arith) (omega arith))))
       (λ t i y. (y .0, λ h. omega (arith, y .1 h, at-most-13 t i b)))
 
   -- who has a request number holds it for at most 4 + n * (3 * n + 9) rounds more

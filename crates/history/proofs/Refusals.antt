@@ -65,7 +65,8 @@ module _ {A : Type 0} {l : List ℕ} where
 begin-listed : (k : ℕ) (i : Image) → Lists (refusals (Begin k)) (begin k i)
 unfolding begin begun
 begin-listed k i =
-    test (leb clients k) (refuses 3 i refl) (test (isOpen i k) (refuses 5 i refl) (test (eqb (i .counters .issued) top) (refuses 8 i refl) (answers _ _)))
+    test (leb clients k) (refuses 3 i refl) (test (isOpen i k) (refuses 5 i refl)
+    (test (eqb (i .counters .issued) top) (refuses 8 i refl) (answers _ _)))
 
 read-listed : (k x : ℕ) (i : Image) → Lists (refusals (Read k x)) (read k x i)
 unfolding read
@@ -77,7 +78,8 @@ stored-listed : (f : Found) (k x : ℕ) (v : List ℕ) (i : Image) → Lists (re
 unfolding replaced added
 stored-listed (At j) k x v i = answers _ _
 stored-listed Missing k x v i =
-    test (leb (i .limit) (cellsOf (numberOf i k) (i .dataRows))) (refuses 9 i refl) (test (leb (i .rows) (length (i .dataRows))) (refuses 10 i refl) (answers _ _))
+    test (leb (i .limit) (cellsOf (numberOf i k) (i .dataRows))) (refuses 9 i refl)
+    (test (leb (i .rows) (length (i .dataRows))) (refuses 10 i refl) (answers _ _))
 
 write-listed : (k x : ℕ) (v : List ℕ) (i : Image) → Lists (refusals (Write k x v)) (write k x v i)
 unfolding write
@@ -89,7 +91,8 @@ write-listed k x v i =
 abandon-listed : (k : ℕ) (i : Image) → Lists (refusals (Abandon k)) (abandon k i)
 unfolding abandon
 abandon-listed k i =
-    test (leb clients k) (refuses 3 i refl) (test (not (isOpen i k)) (refuses 6 i refl) (test (leb 12 (stageOf i k)) (refuses 7 i refl) (answers _ _)))
+    test (leb clients k) (refuses 3 i refl) (test (not (isOpen i k)) (refuses 6 i refl)
+    (test (leb 12 (stageOf i k)) (refuses 7 i refl) (answers _ _)))
 
 -- ---- the steps of Advance: 2 where there is no number or no row left, and no other refusal
 
@@ -210,7 +213,8 @@ unfit-listed (Abandon k) = here refl
 unfit-listed Trim = here refl
 unfit-listed Free = here refl
 
-listed-if : {A : Type 0} (l : List ℕ) (b : Bool) (x y : After A) → Listed l (x .answer) → Listed l (y .answer) → Listed l ((if b then x else y) .answer)
+listed-if : {A : Type 0} (l : List ℕ) (b : Bool) (x y : After A) → Listed l (x .answer) → Listed l (y .answer)
+    → Listed l ((if b then x else y) .answer)
 listed-if l true x y p q = p
 listed-if l false x y p q = q
 

@@ -24,7 +24,8 @@ shown x o = orElse (o .writes x) (o .copy x)
 
 -- an answered read, and what is right of it
 read-holds : (k x : ℕ) (u : Option Value) (Q : Open → List Commit → Type 0) (t : Table)
-    → ((o : Open) → u ≡ shown x o → o .stage ≤ 11 → x < cells → Q o (t .book)) → RightRead t k x (Answered u) → HoldsIn k Q (update (Read k x) (Answered u) t)
+    → ((o : Open) → u ≡ shown x o → o .stage ≤ 11 → x < cells → Q o (t .book)) → RightRead t k x (Answered u) → HoldsIn k Q
+    (update (Read k x) (Answered u) t)
 unfolding update
 read-holds k x u Q t first s = (s .entry, s .found, first (s .entry) (s .value) (s .stage) (s .cell))
 
@@ -79,5 +80,6 @@ answered x k u t s (Refused n) r = absurd (unrefused x (s .0 .stage) n (s .2 .ce
 pub unbroken-run : (qs : List Call) (n : Bounds) (w : ℕ) (t : Table) (m : Memory) → RightRun n w t m qs → Unbroken m qs
 unbroken-run qs n w t m r k x before between rest u split e c =
     let z = two-calls (Besides x) Waits k (Early x u) (early-lasts x u) (Read k x) (Read k x) between rest u
-    (λ n w t next s. read-holds k x u (Early x u) t (λ o p g h. record { same = p; stage = g; cell = h }) s) before n w t m (subst (RightRun n w t m) split r) e c in
+    (λ n w t next s. read-holds k x u (Early x u) t (λ o p g h. record { same = p; stage = g; cell = h }) s) before n w t m
+    (subst (RightRun n w t m) split r) e c in
     answered x k u (z .0) (z .1) _ (z .2 .2)

@@ -42,14 +42,16 @@ fewer t (q ∷ l) r i e =
     by-cases (ℕ-discrete (q .tag) t)
     (λ p. rw (if-pos (ℕ-discrete (q .tag) t) p (drop? (λ r. ℕ-discrete (r .tag) t) l) (q ∷ drop? (λ r. ℕ-discrete (r .tag) t) l)) (omega arith))
     (λ n. rw (if-neg (ℕ-discrete (q .tag) t) n (drop? (λ r. ℕ-discrete (r .tag) t) l) (q ∷ drop? (λ r. ℕ-discrete (r .tag) t) l))
-    (in-case i (λ p. absurd (n (ap (λ (x : DRow). x .tag) (sym p) ∙ e))) (λ j. let y : length (drop? (λ r. ℕ-discrete (r .tag) t) l) < length l = fewer t l r j e in omega arith)))
+    (in-case i (λ p. absurd (n (ap (λ (x : DRow). x .tag) (sym p) ∙ e)))
+    (λ j. let y : length (drop? (λ r. ℕ-discrete (r .tag) t) l) < length l = fewer t l r j e in omega arith)))
 
 pigeon : (cs : List CRow) (d : List DRow) → Distinct cs → ((c : CRow) → In c cs → HasRow (c .tag) d) → length cs ≤ length d
 pigeon [] d h f = omega arith
 pigeon (c ∷ cs) d h f =
     let r = f c (here refl) in
     let y : length (without (c .tag) d) < length d = fewer (c .tag) d (r .0) (r .1) (r .2) in
-    let z : length cs ≤ length (without (c .tag) d) = pigeon cs (without (c .tag) d) (h .1) (λ e i. keeps-row (e .tag) (c .tag) d (h .0 e i) (f e (there i))) in
+    let z : length cs ≤ length (without (c .tag) d) = pigeon cs (without (c .tag) d) (h .1)
+    (λ e i. keeps-row (e .tag) (c .tag) d (h .0 e i) (f e (there i))) in
     omega arith
 
 distinct-append : (l : List CRow) (c : CRow) → Distinct l → ((d : CRow) → In d l → d .tag ≢ c .tag) → Distinct (l ++ (c ∷ []))
@@ -63,7 +65,8 @@ distinct-drop : {P : CRow → Type 0} (q : (c : CRow) → Dec (P c)) (l : List C
 unfolding drop?
 distinct-drop q [] h = tt
 distinct-drop q (c ∷ l) h =
-    ite-elim (λ (L : List CRow). Distinct L) (q c) (λ _. distinct-drop q l (h .1)) (λ _. (λ d i. h .0 d (drop-in q l d i .0), distinct-drop q l (h .1)))
+    ite-elim (λ (L : List CRow). Distinct L) (q c) (λ _. distinct-drop q l (h .1))
+    (λ _. (λ d i. h .0 d (drop-in q l d i .0), distinct-drop q l (h .1)))
 
 replace-row : (u x : ℕ) (v : Value) (t : ℕ) (d : List DRow) (r : DRow) → In r d → r .tag ≡ t → HasRow t (replace u x v d)
 unfolding replace
@@ -71,7 +74,8 @@ replace-row u x v t [] r i e = absurd (in-nil i)
 replace-row u x v t (q ∷ l) r i e =
     ite-elim (λ (L : List DRow). HasRow t L) (some? (valueAtₛ u x q))
     (λ _. in-case i (λ p. (_, here refl, ap (λ (y : DRow). y .tag) (sym p) ∙ e)) (λ j. (r, there j, e)))
-    (λ _. in-case i (λ p. (q, here refl, ap (λ (y : DRow). y .tag) (sym p) ∙ e)) (λ j. let y = replace-row u x v t l r j e in (y .0, there (y .1), y .2)))
+    (λ _. in-case i (λ p. (q, here refl, ap (λ (y : DRow). y .tag) (sym p) ∙ e))
+    (λ j. let y = replace-row u x v t l r j e in (y .0, there (y .1), y .2)))
 
 uncommitted : (t : ℕ) (l : List CRow) → numOf t l ≡ none → (c : CRow) → In c l → c .tag ≢ t
 unfolding numOf numberAt
@@ -93,16 +97,19 @@ Room-state s = Room (s .dat) (s .comm) (s .cl)
 
 module _ {bounds : Bounds} {s : State} {p : Plain} (inv : Inv bounds s p) (u : Room-state s) where
   -- Client a becomes d, no row changes.
-  moved : (a : ℕ) (d : Client) (f : Client → Client) → Tame a f → (1 ≤ d .number → 1 ≤ d .stage → d .stage ≤ 11 → HasRow (d .number) (s .dat)) → Room (s .dat) (s .comm) (putₛ a d f (s .cl))
+  moved : (a : ℕ) (d : Client) (f : Client → Client) → Tame a f
+      → (1 ≤ d .number → 1 ≤ d .stage → d .stage ≤ 11 → HasRow (d .number) (s .dat)) → Room (s .dat) (s .comm) (putₛ a d f (s .cl))
   moved a d f m h = record {
     distinct = u .distinct;
     backed = u .backed;
-    own = each a (λ b. 1 ≤ putₛ a d f (s .cl) b .number → 1 ≤ putₛ a d f (s .cl) b .stage → putₛ a d f (s .cl) b .stage ≤ 11 → HasRow (putₛ a d f (s .cl) b .number) (s .dat))
+    own = each a (λ b. 1 ≤ putₛ a d f (s .cl) b .number → 1 ≤ putₛ a d f (s .cl) b .stage → putₛ a d f (s .cl) b .stage ≤ 11 → HasRow
+        (putₛ a d f (s .cl) b .number) (s .dat))
         (rw (put-at a d f (s .cl)) h) (λ b n. rw (put-off a d f (s .cl) b n, m .number (s .cl b), m .stage (s .cl b)) (u .own b));
   }
 
   -- It stays open at a stage from 1 to 11 only if it was.
-  later : (a : ℕ) (d : Client) (f : Client → Client) → Tame a f → d .number ≡ s .cl a .number → 1 ≤ s .cl a .number → 1 ≤ s .cl a .stage → s .cl a .stage ≤ d .stage → Room (s .dat) (s .comm) (putₛ a d f (s .cl))
+  later : (a : ℕ) (d : Client) (f : Client → Client) → Tame a f → d .number ≡ s .cl a .number → 1 ≤ s .cl a .number → 1 ≤ s .cl a .stage
+      → s .cl a .stage ≤ d .stage → Room (s .dat) (s .comm) (putₛ a d f (s .cl))
   later a d f m e o k l = moved a d f m (λ x y z. subst (λ (t : ℕ). HasRow t (s .dat)) (sym e) (u .own a o k (omega arith)))
 
   shut : (a : ℕ) → Room (s .dat) (s .comm) (putₛ a closedₛ (clearBoth a) (s .cl))
@@ -114,33 +121,46 @@ module _ {bounds : Bounds} {s : State} {p : Plain} (inv : Inv bounds s p) (u : R
   unfolding lateness
   not-committed a o h = inv .tab .mine a o .not-yet (omega arith)
 
-  gone : (a : ℕ) → 1 ≤ s .cl a .number → s .cl a .stage < 12 → Room (without (s .cl a .number) (s .dat)) (s .comm) (putₛ a closedₛ (clearBoth a) (s .cl))
+  gone : (a : ℕ) → 1 ≤ s .cl a .number → s .cl a .stage < 12
+      → Room (without (s .cl a .number) (s .dat)) (s .comm) (putₛ a closedₛ (clearBoth a) (s .cl))
   unfolding closedₛ
   gone a o h = record {
     distinct = u .distinct;
     backed = λ c i. keeps-row (c .tag) (s .cl a .number) (s .dat) (uncommitted (s .cl a .number) (s .comm) (not-committed a o h) c i) (u .backed c i);
-    own = each a (λ b. 1 ≤ putₛ a closedₛ (clearBoth a) (s .cl) b .number → 1 ≤ putₛ a closedₛ (clearBoth a) (s .cl) b .stage → putₛ a closedₛ (clearBoth a) (s .cl) b .stage ≤ 11 → HasRow (putₛ a closedₛ (clearBoth a) (s .cl) b .number) (without (s .cl a .number) (s .dat)))
+    own = each a (λ b. 1 ≤ putₛ a closedₛ (clearBoth a) (s .cl) b .number → 1 ≤ putₛ a closedₛ (clearBoth a) (s .cl) b .stage → putₛ a
+        closedₛ (clearBoth a) (s .cl) b .stage ≤ 11 → HasRow (putₛ a closedₛ (clearBoth a) (s .cl) b .number)
+        (without (s .cl a .number) (s .dat)))
         (rw (put-at a closedₛ (clearBoth a) (s .cl)) (λ x. absurd (omega arith)))
-        (λ b n. rw (put-off a closedₛ (clearBoth a) (s .cl) b n) (λ x y z. keeps-row (s .cl b .number) (s .cl a .number) (s .dat) (inv .tab .apart b a n x) (u .own b x y z)));
+        (λ b n. rw (put-off a closedₛ (clearBoth a) (s .cl) b n)
+        (λ x y z. keeps-row (s .cl b .number) (s .cl a .number) (s .dat) (inv .tab .apart b a n x) (u .own b x y z)));
   }
 
-  made : (a : ℕ) → 1 ≤ s .cl a .number → s .cl a .stage ≡ 11 → Room (s .dat) (s .comm ++ (record { number = s .cl a .commit; tag = s .cl a .number } ∷ [])) (putₛ a (atStageₛ (s .cl a) 12) same (s .cl))
+  made : (a : ℕ) → 1 ≤ s .cl a .number → s .cl a .stage ≡ 11
+      → Room (s .dat) (s .comm ++ (record { number = s .cl a .commit; tag = s .cl a .number } ∷ []))
+      (putₛ a (atStageₛ (s .cl a) 12) same (s .cl))
   made a o e =
       let v = moved a (atStageₛ (s .cl a) 12) same (tame-same a) (λ x y z. absurd (omega arith)) in
       record {
         distinct = distinct-append (s .comm) _ (u .distinct) (λ d i. uncommitted (s .cl a .number) (s .comm) (not-committed a o (omega arith)) d i);
-        backed = λ c i. append-case (s .comm) i (u .backed c) (λ j. subst (λ (x : CRow). HasRow (x .tag) (s .dat)) (sym (in-one j)) (u .own a o (omega arith) (omega arith)));
+        backed = λ c i. append-case (s .comm) i (u .backed c) (λ j. subst (λ (x : CRow). HasRow (x .tag) (s .dat)) (sym (in-one j))
+            (u .own a o (omega arith) (omega arith)));
         own = v .own;
       }
 
   -- Trim.
   kept-own : (t : ℕ) → numOf t (s .comm) ≡ none → HasRow t (s .dat) → HasRow t (drop? (passed? (s .dat) (s .comm) (lowₛ s)) (s .dat))
-  kept-own t e h = (h .0, in-drop (passed? (s .dat) (s .comm) (lowₛ s)) (s .dat) (h .0) (h .1) (passed-none (s .dat) (s .comm) (lowₛ s) (h .0) (ap (λ (x : ℕ). numOf x (s .comm)) (h .2) ∙ e)), h .2)
+  kept-own t e h = (
+    h .0,
+    in-drop (passed? (s .dat) (s .comm) (lowₛ s)) (s .dat) (h .0) (h .1)
+        (passed-none (s .dat) (s .comm) (lowₛ s) (h .0) (ap (λ (x : ℕ). numOf x (s .comm)) (h .2) ∙ e)),
+    h .2,
+  )
 
   not-bare : (d : List DRow) (c : CRow) → ((HasRow (c .tag) d → ⊥) → ⊥) → HasRow (c .tag) d
   not-bare d c h = by-cases (any? (λ r. ℕ-discrete (r .tag) (c .tag)) d) (λ y. y) (λ n. absurd (h n))
 
-  trimmed-room : Room (drop? (passed? (s .dat) (s .comm) (lowₛ s)) (s .dat)) (drop? (bare? (drop? (passed? (s .dat) (s .comm) (lowₛ s)) (s .dat))) (s .comm)) (s .cl)
+  trimmed-room : Room (drop? (passed? (s .dat) (s .comm) (lowₛ s)) (s .dat))
+      (drop? (bare? (drop? (passed? (s .dat) (s .comm) (lowₛ s)) (s .dat))) (s .comm)) (s .cl)
   trimmed-room =
       let d : List DRow = drop? (passed? (s .dat) (s .comm) (lowₛ s)) (s .dat) in
       record {
@@ -174,7 +194,8 @@ module _ {bounds : Bounds} {s : State} {p : Plain} (inv : Inv bounds s p) (u : R
   stays (at2 a h op e) = later a (atStageₛ (s .cl a) 3) same (tame-same a) refl op (omega arith) (omega arith)
   stays (at3 a h op e) = later a _ same (tame-same a) refl op (omega arith) (omega arith)
   stays (at4 a h op e) =
-      ite-elim (λ (x : Out (Answer Progress)). Room-state (x .state)) (ℕ-discrete (listSize clients (look (rph s) (λ b. s .cl b .request) a (s .cl a .rwait))) 0)
+      ite-elim (λ (x : Out (Answer Progress)). Room-state (x .state))
+      (ℕ-discrete (listSize clients (look (rph s) (λ b. s .cl b .request) a (s .cl a .rwait))) 0)
       (λ _. later a _ same (tame-same a) refl op (omega arith) (omega arith)) (λ _. later a _ same (tame-same a) refl op (omega arith) (omega arith))
   stays (at5 a h op e) =
       option-case (smallestₛ (checkKey (s .dat) (s .comm) (s .cl a .number) (s .cl a .snapshot)) (s .dat))
@@ -184,7 +205,8 @@ module _ {bounds : Bounds} {s : State} {p : Plain} (inv : Inv bounds s p) (u : R
   stays (at8 a h op e) = later a (atStageₛ (s .cl a) 9) same (tame-same a) refl op (omega arith) (omega arith)
   stays (at9 a h op e) = later a _ same (tame-same a) refl op (omega arith) (omega arith)
   stays (at10 a h op e) =
-      ite-elim (λ (x : Out (Answer Progress)). Room-state (x .state)) (ℕ-discrete (listSize clients (look (cph s) (λ b. s .cl b .commit) a (s .cl a .cwait))) 0)
+      ite-elim (λ (x : Out (Answer Progress)). Room-state (x .state))
+      (ℕ-discrete (listSize clients (look (cph s) (λ b. s .cl b .commit) a (s .cl a .cwait))) 0)
       (λ _. later a _ same (tame-same a) refl op (omega arith) (omega arith)) (λ _. later a _ same (tame-same a) refl op (omega arith) (omega arith))
   stays (at11 a h op e) = made a op e
   stays (at12 a h op e) = moved a (atStageₛ (clearC a (s .cl a)) 13) (clearC a) (tame-C a) (λ x y z. absurd (omega arith))
@@ -197,7 +219,8 @@ module _ {bounds : Bounds} {s : State} {p : Plain} (inv : Inv bounds s p) (u : R
   pub room-left : (a : ℕ) → 1 ≤ s .cl a .number → s .cl a .stage ≡ 11 → length (s .comm) < length (s .dat)
   room-left a o e =
       let c : CRow = record { number = 0; tag = s .cl a .number } in
-      let z : length (c ∷ s .comm) ≤ length (s .dat) = pigeon (c ∷ s .comm) (s .dat) (λ d i. uncommitted (s .cl a .number) (s .comm) (not-committed a o (omega arith)) d i, u .distinct)
+      let z : length (c ∷ s .comm) ≤ length (s .dat) = pigeon (c ∷ s .comm) (s .dat)
+      (λ d i. uncommitted (s .cl a .number) (s .comm) (not-committed a o (omega arith)) d i, u .distinct)
       (λ d i. in-case i (λ q. subst (λ (x : CRow). HasRow (x .tag) (s .dat)) (sym q) (u .own a o (omega arith) (omega arith))) (u .backed d)) in
       omega arith
 

@@ -168,7 +168,8 @@ nobody-queued t k e q = none-some refl (ap (λ (x : Table). x .clients k) (sym e
 
 -- what holds of record, buffers and table after the calls qs, if it holds of every grown image, and where nobody is at any stage
 module _ (d c : List ℕ) (w l : ℕ) (lw : w ≤ 4294967295) (qs : List Call) (n : ℕ) (below : AllBelow n qs) (X : Memory → Table → Type 0)
-    (grown : (s : Image) (g : Grown n s) → X (encoded s) (erase (g .table))) (idle : (m : Memory) (t : Table) → ((k : ℕ) → Queued t k → ⊥) → X m t) where
+    (grown : (s : Image) (g : Grown n s) → X (encoded s) (erase (g .table))) (idle : (m : Memory) (t : Table) → ((k : ℕ) → Queued t k → ⊥)
+    → X m t) where
   from-set-up : X (afterRun qs (setUp d c w l .memory)) (tableAfter qs (setUp d c w l .memory) blank)
   unfolding start
   from-set-up = go (accepts (length d) (length c) w l) refl

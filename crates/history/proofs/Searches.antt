@@ -67,10 +67,12 @@ pub says-eq : (a b : ℕ) → says (ℕ-discrete a b) ≡ eqb a b
 says-eq a b = by-cases (ℕ-discrete a b) (λ e. says-yes (ℕ-discrete a b) e ∙ sym (eq-eqb a b e)) (λ n. says-no (ℕ-discrete a b) n ∙ sym (ne-eqb a b n))
 
 pub says-lt : (a b : ℕ) → says (decLt a b) ≡ ltb a b
-says-lt a b = by-cases (decLt a b) (λ p. says-yes (decLt a b) p ∙ sym (lt-ltb a b p)) (λ n. says-no (decLt a b) n ∙ sym (le-ltb a b (omega (arith, n))))
+says-lt a b = by-cases (decLt a b) (λ p. says-yes (decLt a b) p ∙ sym (lt-ltb a b p))
+    (λ n. says-no (decLt a b) n ∙ sym (le-ltb a b (omega (arith, n))))
 
 pub says-le : (a b : ℕ) → says (decLe a b) ≡ leb a b
-says-le a b = by-cases (decLe a b) (λ p. says-yes (decLe a b) p ∙ sym (le-leb a b p)) (λ n. says-no (decLe a b) n ∙ sym (lt-leb a b (omega (arith, n))))
+says-le a b = by-cases (decLe a b) (λ p. says-yes (decLe a b) p ∙ sym (le-leb a b p))
+    (λ n. says-no (decLe a b) n ∙ sym (lt-leb a b (omega (arith, n))))
 
 -- ---- some row passes, and the rows that a test leaves
 
@@ -80,7 +82,8 @@ module _ {P : DRow → Type 0} (d : (r : DRow) → Dec (P r)) (p : Row → Bool)
   any-view [] = says-no (any? d []) (λ x. in-nil (x .1))
   any-view (r ∷ rs) = go (p r) refl (any-view rs)
     where
-      go : (b : Bool) → p r ≡ b → says (any? d (map dataRowOf rs)) ≡ any p rs → says (any? d (dataRowOf r ∷ map dataRowOf rs)) ≡ (if b then true else any p rs)
+      go : (b : Bool) → p r ≡ b → says (any? d (map dataRowOf rs)) ≡ any p rs
+          → says (any? d (dataRowOf r ∷ map dataRowOf rs)) ≡ (if b then true else any p rs)
       go true e ih = says-yes (any? d (dataRowOf r ∷ map dataRowOf rs)) (dataRowOf r, here refl, says-true (d (dataRowOf r)) (h r ∙ e))
       go false e ih = says-iff (any? d (dataRowOf r ∷ map dataRowOf rs)) (any? d (map dataRowOf rs))
           (λ x. in-case (x .1) (λ q. absurd (says-false (d (dataRowOf r)) (h r ∙ e) (subst P q (x .2)))) (λ j. (x .0, j, x .2)))
@@ -101,10 +104,12 @@ unfolding hasTag dataRowOf
 tag-view t r = says-eq (tagOf r) t
 
 pub has-row : (t : ℕ) (ds : List Row) → any (hasTag t) ds ≡ true → HasRow t (map dataRowOf ds)
-has-row t ds e = says-true (any? (λ r. ℕ-discrete (r .tag) t) (map dataRowOf ds)) (any-view (λ r. ℕ-discrete (r .tag) t) (hasTag t) (tag-view t) ds ∙ e)
+has-row t ds e = says-true (any? (λ r. ℕ-discrete (r .tag) t) (map dataRowOf ds))
+    (any-view (λ r. ℕ-discrete (r .tag) t) (hasTag t) (tag-view t) ds ∙ e)
 
 pub no-row : (t : ℕ) (ds : List Row) → any (hasTag t) ds ≡ false → HasRow t (map dataRowOf ds) → ⊥
-no-row t ds e = says-false (any? (λ r. ℕ-discrete (r .tag) t) (map dataRowOf ds)) (any-view (λ r. ℕ-discrete (r .tag) t) (hasTag t) (tag-view t) ds ∙ e)
+no-row t ds e = says-false (any? (λ r. ℕ-discrete (r .tag) t) (map dataRowOf ds))
+    (any-view (λ r. ℕ-discrete (r .tag) t) (hasTag t) (tag-view t) ds ∙ e)
 
 pub removed-rows : (t : ℕ) (ds : List Row) → m.without t (map dataRowOf ds) ≡ map dataRowOf (filter (λ r. not (hasTag t r)) ds)
 unfolding m.without
@@ -158,7 +163,8 @@ module _ (t x : ℕ) where
       let n : length (pre ++ (r ∷ [])) ≡ length pre + 1 = length-append pre (r ∷ []) in
       go (isOwn t x r) refl (rw (e, n) at (own-from (pre ++ (r ∷ [])) rs))
     where
-      go : (b : Bool) → isOwn t x r ≡ b → first (valueAtₛ t x) (map dataRowOf rs) ≡ ownValue (pre ++ (r ∷ rs)) (k.find (isOwn t x) (length pre + 1) rs)
+      go : (b : Bool) → isOwn t x r ≡ b
+          → first (valueAtₛ t x) (map dataRowOf rs) ≡ ownValue (pre ++ (r ∷ rs)) (k.find (isOwn t x) (length pre + 1) rs)
           → orNext (valueAtₛ t x (dataRowOf r)) (first (valueAtₛ t x) (map dataRowOf rs))
           ≡ ownValue (pre ++ (r ∷ rs)) (if b then At (length pre) else k.find (isOwn t x) (length pre + 1) rs)
       go true h ih = rw (own-yes r h, getD-append-seam pre r rs [])
@@ -232,13 +238,19 @@ module _ (t : ℕ) (r : Row) (rs : List Row) where
             (λ n. off x (other-cell x n))),
       )
   counted true p false q h =
-      omega (arith, valued-more cells with-it without-it (cellOf r) h (on (cellOf r) (own-cell p)) (has-view t (cellOf r) rs ∙ q) (λ x n. off x (other-cell x n)))
+      omega (
+        arith,
+        valued-more cells with-it without-it (cellOf r) h (on (cellOf r) (own-cell p)) (has-view t (cellOf r) rs ∙ q)
+            (λ x n. off x (other-cell x n)),
+      )
 
-pub cells-view : (t : ℕ) (ds : List Row) → ((r : DRow) → In r (map dataRowOf ds) → r .cell < cells) → cellsOf t ds ≡ valued cells (λ x. findₛ t x (map dataRowOf ds))
+pub cells-view : (t : ℕ) (ds : List Row) → ((r : DRow) → In r (map dataRowOf ds) → r .cell < cells)
+    → cellsOf t ds ≡ valued cells (λ x. findₛ t x (map dataRowOf ds))
 unfolding cellsOf wrote any dataRowOf
 cells-view t [] inside = sym (valued-none cells (λ x. findₛ t x []) (λ x. has-view t x []))
 cells-view t (r ∷ rs) inside =
-    rw (cells-view t rs (λ q i. inside q (there i))) (counted t r rs (hasTag t r) refl (wrote rs t (cellOf r)) refl (inside (dataRowOf r) (here refl)))
+    rw (cells-view t rs (λ q i. inside q (there i))) (counted t r rs (hasTag t r) refl (wrote rs t (cellOf r)) refl
+    (inside (dataRowOf r) (here refl)))
 
 -- ---- the newest version that a read finds
 
@@ -280,16 +292,19 @@ version-key : (cell s : ℕ) (cs : List Row) (r : Row) → asNumber (versionOf c
 unfolding versionOf readKey dataRowOf
 version-key cell s cs r =
     by-cases (ℕ-discrete (cellOf r) cell)
-    (λ e. rw (eq-eqb (cellOf r) cell e, commit-view (tagOf r) cs) (up-to s (commitOf (tagOf r) cs) ∙ sym (if-pos (ℕ-discrete (cellOf r) cell) e _ none)))
+    (λ e. rw (eq-eqb (cellOf r) cell e, commit-view (tagOf r) cs)
+    (up-to s (commitOf (tagOf r) cs) ∙ sym (if-pos (ℕ-discrete (cellOf r) cell) e _ none)))
     (λ n. rw (ne-eqb (cellOf r) cell n) (sym (if-neg (ℕ-discrete (cellOf r) cell) n _ none)))
 
-pub newest-view : (cell s : ℕ) (cs ds : List Row) → versionIn ds (newest (versionOf cell s cs) 0 ds) ≡ largest (readKey (map commitRowOf cs) cell s) (map dataRowOf ds)
+pub newest-view : (cell s : ℕ) (cs ds : List Row)
+    → versionIn ds (newest (versionOf cell s cs) 0 ds) ≡ largest (readKey (map commitRowOf cs) cell s) (map dataRowOf ds)
 newest-view cell s cs ds = newest-from (versionOf cell s cs) (readKey (map commitRowOf cs) cell s) (version-key cell s cs) [] ds
 
 -- ---- shared cells
 
 shared-row : (ds : List Row) (a b : ℕ) (r : Row)
-    → says (Dec·and (ℕ-discrete (dataRowOf r .tag) b) (some? (findₛ a (dataRowOf r .cell) (map dataRowOf ds)))) ≡ (if hasTag b r then wrote ds a (cellOf r) else false)
+    → says (Dec·and (ℕ-discrete (dataRowOf r .tag) b) (some? (findₛ a (dataRowOf r .cell) (map dataRowOf ds)))) ≡ (if hasTag b r then wrote
+    ds a (cellOf r) else false)
 unfolding hasTag dataRowOf
 shared-row ds a b r =
     says-and (ℕ-discrete (tagOf r) b) (some? (findₛ a (cellOf r) (map dataRowOf ds))) ∙ rw (says-eq (tagOf r) b, wrote-view a (cellOf r) ds)
@@ -297,7 +312,8 @@ shared-row ds a b r =
 pub shares-view : (ds : List Row) (a b : ℕ) → says (sharing? (map dataRowOf ds) b a) ≡ shares ds a b
 unfolding sharing? shares
 shares-view ds a b =
-    any-view (λ r. Dec·and (ℕ-discrete (r .tag) b) (some? (findₛ a (r .cell) (map dataRowOf ds)))) (λ r. if hasTag b r then wrote ds a (cellOf r) else false) (shared-row ds a b) ds
+    any-view (λ r. Dec·and (ℕ-discrete (r .tag) b) (some? (findₛ a (r .cell) (map dataRowOf ds))))
+    (λ r. if hasTag b r then wrote ds a (cellOf r) else false) (shared-row ds a b) ds
 
 -- ---- the check's smallest clash: its number alone counts
 
@@ -335,13 +351,15 @@ module _ (ds cs : List Row) (t b : ℕ) where
   clash-view q =
       let d = some? (findₛ t (cellOf q) (map dataRowOf ds)) in
       by-cases d
-      (λ p. rw (sym (wrote-view t (cellOf q) ds) ∙ says-yes d p) (above-view b (commitOf (tagOf q) cs) ∙ ap (sift (λ n. decLt b n)) (sym (commit-view (tagOf q) cs))) ∙ sym (if-pos d p _ none))
+      (λ p. rw (sym (wrote-view t (cellOf q) ds) ∙ says-yes d p)
+      (above-view b (commitOf (tagOf q) cs) ∙ ap (sift (λ n. decLt b n)) (sym (commit-view (tagOf q) cs))) ∙ sym (if-pos d p _ none))
       (λ n. rw (sym (wrote-view t (cellOf q) ds) ∙ says-no d n) (sym (if-neg d n _ none)))
 
   least-view : (qs : List Row) → asNumber (n.smallest (map (clash ds cs t b) qs)) ≡ numberIn (smallestₛ key (map dataRowOf qs))
   unfolding n.smallest smallestₛ l.best
   least-view [] = refl
-  least-view (q ∷ qs) = lesser-view (clash ds cs t b q) (dataRowOf q) (n.smallest (map (clash ds cs t b) qs)) (smallestₛ key (map dataRowOf qs)) (least-view qs) ∙ rw (clash-view q)
+  least-view (q ∷ qs) = lesser-view (clash ds cs t b q) (dataRowOf q) (n.smallest (map (clash ds cs t b) qs))
+      (smallestₛ key (map dataRowOf qs)) (least-view qs) ∙ rw (clash-view q)
 
   pub check-view : asNumber (conflict t b ds cs) ≡ numberIn (smallestₛ key (map dataRowOf ds))
   unfolding conflict

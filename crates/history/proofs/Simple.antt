@@ -38,7 +38,15 @@ use Rattle.history.proofs.Simulates.{observedOutcome, Simulates, simula
 begun-view : (i : Image) (k : ℕ) → Tidy (i .clients) → k < clients → observedOutcome (Begin k) (begun k i) ≡ m.begunₛ (view i) k
 unfolding begun m.begunₛ view clientOf
 begun-view i k z h =
-    let o : Fields = record { stage = 0; number = i .counters .issued + 1; snapshot = i .counters .last; request = 0; commit = 0; requestWaits = 0; commitWaits = 0 } in
+    let o : Fields = record {
+      stage = 0;
+      number = i .counters .issued + 1;
+      snapshot = i .counters .last;
+      request = 0;
+      commit = 0;
+      requestWaits = 0;
+      commitWaits = 0;
+    } in
     rw (clients-put (i .clients) z k h o, none-listed, add-one (i .counters .issued))
 
 pub begin-does : (i : Image) (k : ℕ) → Wellformed i → i .counters .issued ≤ top → Simulates i (Begin k) (begin k i)
@@ -48,7 +56,10 @@ begin-does i k z w =
     let l : k < clients = leb-false clients k h in
     simulates-if i (Begin k) (isOpen i k) (λ e. record { did = no-begin k alreadyOpen (omega arith) (for-open l (same-open i k ∙ e)) }) (λ e.
     simulates-if i (Begin k) (eqb (i .counters .issued) top)
-    (λ n. record { did = no-begin k numbersUsedUp (omega arith) (for-numbers l (same-open i k ∙ e) (omega (arith, eqb-true (i .counters .issued) top n, W-at i))) }) (λ n.
+    (λ n. record {
+      did = no-begin k numbersUsedUp (omega arith) (for-numbers l (same-open i k ∙ e)
+          (omega (arith, eqb-true (i .counters .issued) top n, W-at i)));
+    }) (λ n.
     let d : i .counters .issued ≡ top → ⊥ = eqb-false (i .counters .issued) top n in
     simulates i (Begin k) (begun k i) (begun-view i k (z .tidy) l) (begins k l (shut i k e) (omega (arith, d, W-at i))))))
 
@@ -61,11 +72,13 @@ chosen ds Missing Nothing = refl
 chosen ds Missing (Version j n) = refl
 
 found-view : (t x b : ℕ) (cs ds : List Row)
-    → bytesRead ds (reading (lookFor t x b ds cs)) ≡ orElse (m.findₛ t x (map dataRowOf ds)) (m.valueOfₛ (largest (readKey (map commitRowOf cs) x b) (map dataRowOf ds)))
+    → bytesRead ds (reading (lookFor t x b ds cs)) ≡ orElse (m.findₛ t x (map dataRowOf ds))
+    (m.valueOfₛ (largest (readKey (map commitRowOf cs) x b) (map dataRowOf ds)))
 unfolding lookFor
 found-view t x b cs ds = rw (own-view t x ds, ← newest-view x b cs ds) (chosen ds (find (isOwn t x) 0 ds) (newest (versionOf x b cs) 0 ds))
 
-lookup-view : (i : Image) (k x : ℕ) → bytesRead (i .dataRows) (reading (lookFor (numberOf i k) x (snapshotOf i k) (i .dataRows) (i .commitRows))) ≡ lookup (view i) k x
+lookup-view : (i : Image) (k x : ℕ)
+    → bytesRead (i .dataRows) (reading (lookFor (numberOf i k) x (snapshotOf i k) (i .dataRows) (i .commitRows))) ≡ lookup (view i) k x
 unfolding lookup committedAt view clientsAs clientOf
 lookup-view i k x = found-view (numberOf i k) x (snapshotOf i k) (i .commitRows) (i .dataRows)
 
@@ -73,11 +86,20 @@ pub read-does : (i : Image) (k x : ℕ) → Wellformed i → Simulates i (Read k
 unfolding read
 read-does i k x z =
     simulates-if i (Read k x) (leb clients k)
-    (λ h. record { did = no-read k x noClient (omega arith) (λ o. absurd (omega (arith, o, past-number i (z .tidy) k (leb-true clients k h)))) }) (λ h.
+    (λ h. record {
+      did = no-read k x noClient (omega arith) (λ o. absurd
+          (omega (arith, o, past-number i (z .tidy) k (leb-true clients k h))));
+    }) (λ h.
     simulates-if i (Read k x) (leb cells x) (λ g. record { did = no-read k x noCell (omega arith) (λ _. for-no-cell (leb-true cells x g)) }) (λ g.
-    simulates-if i (Read k x) (not (isOpen i k)) (λ e. record { did = no-read k x notOpen (omega arith) (λ o. absurd (omega (arith, o, not-open i k e))) }) (λ o.
+    simulates-if i (Read k x) (not (isOpen i k)) (λ e. record {
+      did = no-read k x notOpen (omega arith)
+          (λ o. absurd (omega (arith, o, not-open i k e)));
+    }) (λ o.
     simulates-if i (Read k x) (ltb 11 (stageOf i k))
-    (λ l. record { did = no-read k x wrongStage (omega arith) (λ _. for-late (leb-false cells x g) (omega (arith, ltb-true 11 (stageOf i k) l, stage-at i k))) }) (λ l.
+    (λ l. record {
+      did = no-read k x wrongStage (omega arith) (λ _. for-late (leb-false cells x g)
+          (omega (arith, ltb-true 11 (stageOf i k) l, stage-at i k)));
+    }) (λ l.
     simulates i (Read k x) _ (ap (λ (v : Option Value). out (view i) (Answered v)) (lookup-view i k x))
     (reads k x (leb-false cells x g) (is-open i k o) (omega (arith, ltb-false 11 (stageOf i k) l, stage-at i k)))))))
 
@@ -95,8 +117,14 @@ pub abandon-does : (i : Image) (k : ℕ) → Wellformed i → Simulates i (Aband
 unfolding abandon
 abandon-does i k z =
     simulates-if i (Abandon k) (leb clients k)
-    (λ h. record { did = no-abandon k noClient (omega arith) (λ o. absurd (omega (arith, o, past-number i (z .tidy) k (leb-true clients k h)))) }) (λ h.
-    simulates-if i (Abandon k) (not (isOpen i k)) (λ e. record { did = no-abandon k notOpen (omega arith) (λ o. absurd (omega (arith, o, not-open i k e))) }) (λ o.
+    (λ h. record {
+      did = no-abandon k noClient (omega arith) (λ o. absurd
+          (omega (arith, o, past-number i (z .tidy) k (leb-true clients k h))));
+    }) (λ h.
+    simulates-if i (Abandon k) (not (isOpen i k)) (λ e. record {
+      did = no-abandon k notOpen (omega arith)
+          (λ o. absurd (omega (arith, o, not-open i k e)));
+    }) (λ o.
     simulates-if i (Abandon k) (leb 12 (stageOf i k))
     (λ g. record { did = no-abandon k wrongStage (omega arith) (λ _. for-commit (omega (arith, leb-true 12 (stageOf i k) g, stage-at i k))) }) (λ g.
     let l : k < clients = leb-false clients k h in

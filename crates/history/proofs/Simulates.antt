@@ -24,10 +24,12 @@ observedOutcome q o = out (view (o .image)) (observeAnswer q (o .image .dataRows
 pub record Simulates (i : Image) (q : Call) (o : Outcome (Result q)) : Type 0 where
   pub did : Transition (view i) q (observedOutcome q o)
 
-pub simulates : (i : Image) (q : Call) (o : Outcome (Result q)) {x : Out (Answer (Observed q))} → observedOutcome q o ≡ x → Transition (view i) q x → Simulates i q o
+pub simulates : (i : Image) (q : Call) (o : Outcome (Result q)) {x : Out (Answer (Observed q))} → observedOutcome q o ≡ x
+    → Transition (view i) q x → Simulates i q o
 simulates i q o e t = record { did = subst (λ (y : Out (Answer (Observed q))). Transition (view i) q y) (sym e) t }
 
-pub simulates-if : (i : Image) (q : Call) (b : Bool) {x y : Outcome (Result q)} → (b ≡ true → Simulates i q x) → (b ≡ false → Simulates i q y) → Simulates i q (if b then x else y)
+pub simulates-if : (i : Image) (q : Call) (b : Bool) {x y : Outcome (Result q)} → (b ≡ true → Simulates i q x)
+    → (b ≡ false → Simulates i q y) → Simulates i q (if b then x else y)
 simulates-if i q true f g = f refl
 simulates-if i q false f g = g refl
 

@@ -29,9 +29,11 @@ rows-spread w n rs h = rows-flat w rs (replicate (w * (n - length rs)) 0) h
 
 drop-zeros : (k m : ℕ) → drop {A = ℕ} k (replicate (k + m) 0) ≡ replicate m 0
 drop-zeros k m =
-    ap (λ (l : List ℕ). drop k l) (sym (replicate-append-replicate {A = ℕ} k m 0)) ∙ drop-at {A = ℕ} (replicate k 0) (replicate m 0) k (length-replicate {A = ℕ} k 0)
+    ap (λ (l : List ℕ). drop k l) (sym (replicate-append-replicate {A = ℕ} k m 0)) ∙ drop-at {A = ℕ} (replicate k 0) (replicate m 0) k
+    (length-replicate {A = ℕ} k 0)
 
-pub laid-spread : (w n : ℕ) (rs rs′ : List Row) → Wide w rs → length rs ≤ n → length rs′ ≤ n → layout w (length rs) rs′ (spread w n rs) ≡ spread w n rs′
+pub laid-spread : (w n : ℕ) (rs rs′ : List Row) → Wide w rs → length rs ≤ n → length rs′ ≤ n
+    → layout w (length rs) rs′ (spread w n rs) ≡ spread w n rs′
 unfolding layout spread
 laid-spread w n rs rs′ h g g′ =
     let a : ℕ = length rs in

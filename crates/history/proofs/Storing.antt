@@ -43,7 +43,11 @@ module _ (r : Row) (v : List ℕ) (l : length r ≡ 24) (k : length v ≡ 16) wh
 
   back : part 8 16 (spliced 8 v r) ≡ v
   unfolding spliced
-  back = rw (append-assoc (take 8 r) v (drop (8 + length v) r), drop-at (take 8 r) (v ++ drop (8 + length v) r) 8 (length-take-le 8 r (omega arith))) (take-at v (drop (8 + length v) r) 16 k)
+  back = rw (
+    append-assoc (take 8 r) v (drop (8 + length v) r),
+    drop-at (take 8 r) (v ++ drop (8 + length v) r) 8
+        (length-take-le 8 r (omega arith)),
+  ) (take-at v (drop (8 + length v) r) 16 k)
 
   value-view : dataRowOf (withValue v r) ≡ record { tag = dataRowOf r .tag; cell = dataRowOf r .cell; value = v }
   unfolding dataRowOf tagOf cellOf valueOf withValue
@@ -87,7 +91,8 @@ module _ (t x : ℕ) (v : List ℕ) (l : length v ≡ 16) where
             value-view r v (w .0) l,
           )
 
-      miss : isOwn t x r ≡ false → map dataRowOf (pre ++ (r ∷ [])) ++ replace t x v (map dataRowOf rs) ≡ map dataRowOf (after ((pre ++ (r ∷ [])) ++ rs) j) → Goal
+      miss : isOwn t x r ≡ false
+          → map dataRowOf (pre ++ (r ∷ [])) ++ replace t x v (map dataRowOf rs) ≡ map dataRowOf (after ((pre ++ (r ∷ [])) ++ rs) j) → Goal
       miss h ih =
           rw (own-no t x r h)
           (sym (append-assoc (map dataRowOf pre) (dataRowOf r ∷ []) (replace t x v (map dataRowOf rs)))
@@ -103,7 +108,8 @@ module _ (t x : ℕ) (v : List ℕ) (l : length v ≡ 16) where
 -- ---- the call
 
 module _ (i : Image) (k x : ℕ) (v : List ℕ) (z : Wellformed i) (l : length v ≡ 16) where
-  replaced-view : (j : ℕ) → find (isOwn (numberOf i k) x) 0 (i .dataRows) ≡ At j → m.figured (view (replaced j v i .image)) ≡ m.overwritten (view i) k x v
+  replaced-view : (j : ℕ) → find (isOwn (numberOf i k) x) 0 (i .dataRows) ≡ At j
+      → m.figured (view (replaced j v i .image)) ≡ m.overwritten (view i) k x v
   unfolding m.overwritten view replaced clientsAs clientOf
   replaced-view j e = rw (replaced-from (numberOf i k) x v l [] (i .dataRows) j (z .dataWide) e)
 
@@ -128,7 +134,8 @@ module _ (i : Image) (k x : ℕ) (v : List ℕ) (z : Wellformed i) (l : length v
     added-figure = rw (free-at more)
 
     -- the cells that the limit is held to, by the table of what the client wrote
-    count-at : (inside : (r : DRow) → In r (view i .dat) → r .cell < cells) → cellsOf (numberOf i k) (i .dataRows) ≡ valued cells (writesOf (view i) k)
+    count-at : (inside : (r : DRow) → In r (view i .dat) → r .cell < cells)
+        → cellsOf (numberOf i k) (i .dataRows) ≡ valued cells (writesOf (view i) k)
     unfolding view clientsAs clientOf
     count-at inside = cells-view (numberOf i k) (i .dataRows) inside
 
@@ -147,10 +154,16 @@ module _ (i : Image) (k x : ℕ) (v : List ℕ) (z : Wellformed i) (l : length v
         let n : has (writesOf (view i) k x) ≡ false = ap has new in
         let c = count-at inside in
         simulates-if i (Write k x v) (leb (i .limit) (cellsOf (numberOf i k) (i .dataRows)))
-        (λ f. record { did = no-write k x v cellLimit (omega arith) (λ _. for-limit may n (omega (arith, c, limit-at i, leb-true (i .limit) _ f))) }) (λ f.
+        (λ f. record {
+          did = no-write k x v cellLimit (omega arith)
+              (λ _. for-limit may n (omega (arith, c, limit-at i, leb-true (i .limit) _ f)));
+        }) (λ f.
         let fewer : valued cells (writesOf (view i) k) < view i .bounds .limit = omega (arith, c, limit-at i, leb-false (i .limit) _ f) in
         simulates-if i (Write k x v) (leb (i .rows) (length (i .dataRows)))
-        (λ g. record { did = no-write k x v noFreeRow (omega arith) (λ _. for-rows may n fewer (ap (λ (m : ℕ). Answered m) (free-at i ∙ omega (arith, leb-true (i .rows) _ g)))) }) (λ _.
+        (λ g. record {
+          did = no-write k x v noFreeRow (omega arith)
+              (λ _. for-rows may n fewer (ap (λ (m : ℕ). Answered m) (free-at i ∙ omega (arith, leb-true (i .rows) _ g))));
+        }) (λ _.
         simulates i (Write k x v) (repliesFree more) (added-figure ∙ added-view)
         (adds k x v (record { may = may; fewer = λ _. fewer }) isopen new)))
 
@@ -159,13 +172,25 @@ pub write-does : (i : Image) (k x : ℕ) (v : List ℕ) → Wellformed i → num
 unfolding write
 write-does i k x v z b inside =
     simulates-if i (Write k x v) (leb clients k)
-    (λ h. record { did = no-write k x v noClient (omega arith) (λ o. absurd (omega (arith, o, past-number i (z .tidy) k (leb-true clients k h)))) }) (λ h.
+    (λ h. record {
+      did = no-write k x v noClient (omega arith) (λ o. absurd
+          (omega (arith, o, past-number i (z .tidy) k (leb-true clients k h))));
+    }) (λ h.
     simulates-if i (Write k x v) (leb cells x) (λ g. record { did = no-write k x v noCell (omega arith) (λ _. for-cell (leb-true cells x g)) }) (λ g.
     let below : x < cells = leb-false cells x g in
     simulates-if i (Write k x v) (not (eqb (length v) 16))
-    (λ l. record { did = no-write k x v wrongLength (omega arith) (λ _. for-length below (eqb-false (length v) 16 (not-true (eqb (length v) 16) l))) }) (λ l.
+    (λ l. record {
+      did = no-write k x v wrongLength (omega arith)
+          (λ _. for-length below (eqb-false (length v) 16 (not-true (eqb (length v) 16) l)));
+    }) (λ l.
     let bytes : length v ≡ 16 = eqb-true (length v) 16 (not-false (eqb (length v) 16) l) in
-    simulates-if i (Write k x v) (not (isOpen i k)) (λ e. record { did = no-write k x v notOpen (omega arith) (λ o. absurd (omega (arith, o, not-open i k e))) }) (λ o.
+    simulates-if i (Write k x v) (not (isOpen i k)) (λ e. record {
+      did = no-write k x v notOpen (omega arith)
+          (λ o. absurd (omega (arith, o, not-open i k e)));
+    }) (λ o.
     simulates-if i (Write k x v) (not (eqb (stageOf i k) 0))
-    (λ f. record { did = no-write k x v wrongStage (omega arith) (λ _. for-stage below bytes (omega (arith, stage-at i k, eqb-false (stageOf i k) 0 (not-true (eqb (stageOf i k) 0) f)))) }) (λ f.
+    (λ f. record {
+      did = no-write k x v wrongStage (omega arith)
+          (λ _. for-stage below bytes (omega (arith, stage-at i k, eqb-false (stageOf i k) 0 (not-true (eqb (stageOf i k) 0) f))));
+    }) (λ f.
     stored-does i k x v z bytes b below (is-open i k o) (at-first i k f) inside (find (isOwn (numberOf i k) x) 0 (i .dataRows)) refl)))))

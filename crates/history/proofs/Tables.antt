@@ -31,7 +31,8 @@ module _ (a : ℕ) {v v′ : ℕ → Reader} (else : (b : ℕ) → b ≢ a → v
   owner comm r n (inr h) = inr h
   owner comm r n (inl h) =
       by-cases (ℕ-discrete (h .0) a)
-      (λ e. absurd (n (subst (λ (b : ℕ). 1 ≤ v b .num) e (h .1)) (subst (λ (b : ℕ). v b .late ≡ 0) e (h .2)) (subst (λ (b : ℕ). r .tag ≡ v b .num) e (h .3))))
+      (λ e. absurd (n (subst (λ (b : ℕ). 1 ≤ v b .num) e (h .1)) (subst (λ (b : ℕ). v b .late ≡ 0) e (h .2))
+      (subst (λ (b : ℕ). r .tag ≡ v b .num) e (h .3))))
       (λ m. inl (h .0, rw (else (h .0) m) (h .1), rw (else (h .0) m) (h .2), rw (else (h .0) m) (h .3)))
 
 -- A later commit that all saw is still seen by all: an open client was open, or sees all.
@@ -78,7 +79,8 @@ module _ {dat : List DRow} {comm : List CRow} {last W : ℕ} {table : ℕ → Op
     row-cell = t .row-cell;
     uniq = t .uniq;
     sound = t .sound;
-    kept = λ e x i h. kept-map (λ k. k) (seen book book last last v v′ (λ d j. j) (omega arith) (sees-else (λ h. absurd (omega arith))) e x) (t .kept e x i h);
+    kept = λ e x i h. kept-map (λ k. k) (seen book book last last v v′ (λ d j. j) (omega arith) (sees-else (λ h. absurd (omega arith))) e x)
+        (t .kept e x i h);
     rising = t .rising;
     book-last = t .book-last;
     all-table = t .all-table;
@@ -108,7 +110,13 @@ module _ {dat : List DRow} {comm : List CRow} {last W : ℕ} {table : ℕ → Op
     uniq = uniq-drop own? dat (t .uniq);
     sound = λ r n i. t .sound r n (drop-in own? dat r i .0);
     kept = λ e x i h. kept-map
-        (λ k. (k .0, in-drop own? dat (k .0) (k .1) (λ q. none-some (t .mine a isopen .not-yet late) (ap (λ (z : ℕ). numOf z comm) (sym q) ∙ k .3)), k .2, k .3))
+        (λ k. (
+          k .0,
+          in-drop own? dat (k .0) (k .1) (λ q. none-some (t .mine a isopen .not-yet late)
+              (ap (λ (z : ℕ). numOf z comm) (sym q) ∙ k .3)),
+          k .2,
+          k .3,
+        ))
         (seen book book last last v v′ (λ d j. j) (omega arith) (sees-else (λ h. absurd (omega arith))) e x) (t .kept e x i h);
     rising = t .rising;
     book-last = t .book-last;
@@ -166,7 +174,8 @@ module _ {dat : List DRow} {comm : List CRow} {last W : ℕ} {table : ℕ → Op
     row-cell = t .row-cell;
     uniq = t .uniq;
     sound = t .sound;
-    kept = λ e x i h. kept-map (λ k. k) (seen book book last last v v′ (λ d j. j) (omega arith) (sees-else (λ h. inl (rw at (omega arith)))) e x) (t .kept e x i h);
+    kept = λ e x i h. kept-map (λ k. k) (seen book book last last v v′ (λ d j. j) (omega arith) (sees-else (λ h. inl (rw at (omega arith))))
+        e x) (t .kept e x i h);
     rising = t .rising;
     book-last = t .book-last;
     all-table = t .all-table;
@@ -211,7 +220,12 @@ module _ {dat : List DRow} {comm : List CRow} {last W : ℕ} {table : ℕ → Op
     uniq = d .uniq (t .uniq);
     sound = λ r n i e. sounded r n (d .new r i) e;
     kept = λ e y i h. kept-map
-        (λ k. (k .0, d .old (k .0) (k .1) (λ q. none-some (t .mine a isopen .not-yet late) (ap (λ (z : ℕ). numOf z comm) (sym q) ∙ k .3)), k .2, k .3))
+        (λ k. (
+          k .0,
+          d .old (k .0) (k .1) (λ q. none-some (t .mine a isopen .not-yet late) (ap (λ (z : ℕ). numOf z comm) (sym q) ∙ k .3)),
+          k .2,
+          k .3,
+        ))
         (seen book book last last v v′ (λ d j. j) (omega arith) (sees-else (λ h. inr (isopen, rw at (omega arith)))) e y) (t .kept e y i h);
     rising = t .rising;
     book-last = t .book-last;
@@ -280,14 +294,22 @@ module _ {dat : List DRow} {comm : List CRow} {last W : ℕ} {table : ℕ → Op
       kept = λ e x i h. in-case i
           (λ q. inl (mine-row e x q h))
           (λ j. kept-map (λ k. (k .0, k .1, k .2, num-old comm n (v a .num) (k .0 .tag) (e .number) (k .3)))
-          (seen book (entry ∷ book) last n v v′ (λ d j. there j) (omega arith) (sees-else (λ h. inr (isopen, rw at (omega arith)))) e x) (t .kept e x j h));
+          (seen book (entry ∷ book) last n v v′ (λ d j. there j) (omega arith) (sees-else (λ h. inr (isopen, rw at (omega arith)))) e x)
+          (t .kept e x j h));
       rising = (λ d i. omega (arith, all-le d i), t .rising);
       book-last = refl;
       all-table = λ x. ap (orElse (v a .writes x)) (t .all-table x);
     }
       where
         relate : Mine dat comm last W book (v a)
-            → Mine dat comm last W book (record { num = v a .num; snap = v a .snap; late = 1; since = v a .since; copy = v a .copy; writes = v a .writes })
+            → Mine dat comm last W book (record {
+              num = v a .num;
+              snap = v a .snap;
+              late = 1;
+              since = v a .since;
+              copy = v a .copy;
+              writes = v a .writes;
+            })
         relate o = record {
           num-le = o .num-le;
           not-yet = λ q. absurd (omega arith);
@@ -406,7 +428,8 @@ module _ {dat : List DRow} {comm : List CRow} {last W : ℕ} {table : ℕ → Op
     all-table = t .all-table;
   }
     where
-      still : (e : Entry) (x : ℕ) → RowOf dat comm (e .number) x ⊎ Superseded book last v e x → RowOf (trimDat dat comm l) (trimComm dat comm l) (e .number) x ⊎ Superseded book last v e x
+      still : (e : Entry) (x : ℕ) → RowOf dat comm (e .number) x ⊎ Superseded book last v e x
+          → RowOf (trimDat dat comm l) (trimComm dat comm l) (e .number) x ⊎ Superseded book last v e x
       still e x (inr d) = inr d
       still e x (inl k) =
           by-cases (passed? dat comm l (k .0))
@@ -414,10 +437,18 @@ module _ {dat : List DRow} {comm : List CRow} {last W : ℕ} {table : ℕ → Op
           (λ q. let i : In (k .0) (trimDat dat comm l) = in-drop (passed? dat comm l) dat (k .0) (k .1) q in
           inl (k .0, i, k .2, num-kept (k .0 .tag) (k .0) i refl ∙ k .3))
         where
-          later : (n : ℕ) × (numOf (k .0 .tag) comm ≡ some n) × ((r : DRow) × In r dat × ((r .cell ≡ k .0 .cell) × On (λ m. (n < m) × (m ≤ l)) (numOf (r .tag) comm)))
+          later : (n : ℕ) × (numOf (k .0 .tag) comm ≡ some n) × ((r : DRow) × In r dat ×
+              ((r .cell ≡ k .0 .cell) × On (λ m. (n < m) × (m ≤ l)) (numOf (r .tag) comm)))
               → Superseded book last v e x
           later h =
               let m = on-some (numOf (h .2 .0 .tag) comm) (h .2 .2 .1) in
               let d = t .sound (h .2 .0) (m .0) (h .2 .1) (m .1) in
-              let q : e .number ≡ h .0 = Option·some-injective (e .number) (h .0) (sym (k .3) ∙ h .1) in
-              (d .0, d .1, omega (arith, m .2, d .2), rw (sym (h .2 .2 .0 ∙ k .2), d .3) tt, omega (arith, m .2, d .2), λ a z. omega (arith, m .2, d .2, low-snap a z))
+              let q : e .number ≡ h .0 = Option·some-injective (e .number) (h .0) (sym (k .3) ∙ h .1) in (
+                d .0,
+                d .1,
+                omega (arith, m .2, d .2),
+                rw (sym (h .2 .2 .0 ∙ k .2), d .3) tt,
+                omega (arith, m .2, d .2),
+                λ a z. omega
+                    (arith, m .2, d .2, low-snap a z),
+              )

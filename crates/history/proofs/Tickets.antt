@@ -21,7 +21,8 @@ listing ph rel? a b = ite (decLt b clients) (ite (ℕ-discrete b a) false (ite (
 pub listing-has : (ph : ℕ → ℕ) {P : ℕ → Type 0} (rel? : (b : ℕ) → Dec (P b)) (a b : ℕ) → b < clients → b ≢ a → 1 ≤ ph b → P b
     → listing ph rel? a b ≡ true
 unfolding listing
-listing-has ph rel? a b h n q p = if-pos (decLt b clients) h _ _ ∙ if-neg (ℕ-discrete b a) n _ _ ∙ if-pos (decLe 1 (ph b)) q _ _ ∙ if-pos (rel? b) p _ _
+listing-has ph rel? a b h n q p = if-pos (decLt b clients) h _ _ ∙ if-neg (ℕ-discrete b a) n _ _ ∙ if-pos (decLe 1 (ph b)) q _ _ ∙ if-pos
+    (rel? b) p _ _
 
 -- Only others in the queue are on it.
 pub listing-only : (ph : ℕ → ℕ) {P : ℕ → Type 0} (rel? : (b : ℕ) → Dec (P b)) (a b : ℕ) → listing ph rel? a b ≡ true → (1 ≤ ph b) × (b ≢ a)
@@ -215,27 +216,33 @@ module _ (c : ℕ) {ph num : ℕ → ℕ} {list : ℕ → ℕ → Bool} {ctr : �
       → (5 ≤ ph′ c → (a : ℕ) → a ≢ c → 2 ≤ ph a → Rel a c → num a < num c → ⊥)
       → TicketQueue ph′ num′ list′ ctr′ Rel′
   own h f keeps lists passes = record {
-    bound = λ a ha. by-cases (ℕ-discrete a c) (λ e. omega (arith, ap num′ e, q .bound c h, o .counter)) (λ n. omega (arith, bound-old a n ha, o .counter));
+    bound = λ a ha. by-cases (ℕ-discrete a c) (λ e. omega (arith, ap num′ e, q .bound c h, o .counter))
+        (λ n. omega (arith, bound-old a n ha, o .counter));
     apart = λ a b n ha hb.
         by-cases (ℕ-discrete a c)
-        (λ e. let nb : b ≢ c = λ e′. n (e ∙ sym e′) in let eb = old b nb in let d = q .apart c b (λ z. nb (sym z)) h (omega arith) in omega (arith, ap num′ e))
+        (λ e. let nb : b ≢ c = λ e′. n (e ∙ sym e′) in let eb = old b nb in let d = q .apart c b (λ z. nb (sym z)) h (omega arith) in omega
+        (arith, ap num′ e))
         (λ na. by-cases (ℕ-discrete b c)
         (λ e. let ea = old a na in let d = q .apart a c na (omega arith) h in omega (arith, ap num′ e))
         (λ nb. apart-old a b na nb n ha hb));
     listed = λ a b n ha hb r l.
         by-cases (ℕ-discrete b c)
         (λ e. let na : a ≢ c = λ e′. n (e′ ∙ sym e) in let ea = old a na in
-        ap (λ (x : ℕ). list′ x a) e ∙ lists (ap ph′ (sym e) ∙ hb) a na (omega arith) (subst (Rel a) e (o .concerns a b ha (omega arith) r)) (omega (arith, ap num′ e)))
+        ap (λ (x : ℕ). list′ x a) e ∙ lists (ap ph′ (sym e) ∙ hb) a na (omega arith) (subst (Rel a) e (o .concerns a b ha (omega arith) r))
+        (omega (arith, ap num′ e)))
         (λ nb. by-cases (ℕ-discrete a c)
         (λ e. let eb = old b nb in let l′ : num c < num b = omega (arith, ap num′ e) in
-        ap (list′ b) e ∙ keeps b nb ∙ q .listed c b (λ z. nb (sym z)) h (omega arith) (subst (λ (x : ℕ). Rel x b) e (o .concerns a b ha (omega arith) r)) l′)
+        ap (list′ b) e ∙ keeps b nb ∙ q .listed c b (λ z. nb (sym z)) h (omega arith)
+        (subst (λ (x : ℕ). Rel x b) e (o .concerns a b ha (omega arith) r)) l′)
         (λ na. listed-old a b na nb n ha hb r l));
     passed = λ a b n ha hb r l.
         by-cases (ℕ-discrete b c)
         (λ e. let na : a ≢ c = λ e′. n (e′ ∙ sym e) in let ea = old a na in
-        passes (subst (λ (x : ℕ). 5 ≤ ph′ x) e hb) a na (omega arith) (subst (Rel a) e (o .concerns a b ha (omega arith) r)) (omega (arith, ap num′ e)))
+        passes (subst (λ (x : ℕ). 5 ≤ ph′ x) e hb) a na (omega arith) (subst (Rel a) e (o .concerns a b ha (omega arith) r))
+        (omega (arith, ap num′ e)))
         (λ nb. by-cases (ℕ-discrete a c)
         (λ e. let eb = old b nb in
-        q .passed c b (λ z. nb (sym z)) h (omega arith) (subst (λ (x : ℕ). Rel x b) e (o .concerns a b ha (omega arith) r)) (omega (arith, ap num′ e)))
+        q .passed c b (λ z. nb (sym z)) h (omega arith) (subst (λ (x : ℕ). Rel x b) e (o .concerns a b ha (omega arith) r))
+        (omega (arith, ap num′ e)))
         (λ na. passed-old a b na nb n ha hb r l));
   }

@@ -37,11 +37,13 @@ pub data Transition (s : State) : (q : Call) → Out (Answer (Observed q)) → T
   no-abandon : (a r : ℕ) → r ≢ unfit → (1 ≤ s .cl a .number → AbandonRefusal (s .cl a .stage) r) → Transition s (Abandon a) (out s (Refused r))
   begins : (a : ℕ) → a < clients → s .cl a .number ≡ 0 → s .W < top → Transition s (Begin a) (begunₛ s a)
   reads : (a x : ℕ) → x < cells → 1 ≤ s .cl a .number → s .cl a .stage ≤ 11 → Transition s (Read a x) (out s (Answered (lookup s a x)))
-  replaces : (a x : ℕ) (v : Value) → WriteAllowed (s .bounds .limit) (s .cl a .stage) (writesOf s a) x v → 1 ≤ s .cl a .number → IsSome (writesOf s a x)
+  replaces : (a x : ℕ) (v : Value) → WriteAllowed (s .bounds .limit) (s .cl a .stage) (writesOf s a) x v → 1 ≤ s .cl a .number
+      → IsSome (writesOf s a x)
       → Transition s (Write a x v) (overwritten s a x v)
   adds : (a x : ℕ) (v : Value) → WriteAllowed (s .bounds .limit) (s .cl a .stage) (writesOf s a) x v → 1 ≤ s .cl a .number → writesOf s a x ≡ none
       → Transition s (Write a x v) (addedₛ s a x v)
-  at0 : (a : ℕ) → a < clients → 1 ≤ s .cl a .number → s .cl a .stage ≡ 0 → HasRow (s .cl a .number) (s .dat) → Transition s (Advance a) (step-to s a 1)
+  at0 : (a : ℕ) → a < clients → 1 ≤ s .cl a .number → s .cl a .stage ≡ 0 → HasRow (s .cl a .number) (s .dat)
+      → Transition s (Advance a) (step-to s a 1)
   ends0 : (a : ℕ) → a < clients → 1 ≤ s .cl a .number → s .cl a .stage ≡ 0 → (HasRow (s .cl a .number) (s .dat) → ⊥)
       → Transition s (Advance a) (out (leave s a (s .dat)) (Answered (Done (s .cl a .snapshot))))
   at1 : (a : ℕ) → a < clients → 1 ≤ s .cl a .number → s .cl a .stage ≡ 1 → Transition s (Advance a) (takeR s a)
@@ -60,7 +62,8 @@ pub data Transition (s : State) : (q : Call) → Out (Answer (Observed q)) → T
   at11 : (a : ℕ) → a < clients → 1 ≤ s .cl a .number → s .cl a .stage ≡ 11 → Transition s (Advance a) (committed s a)
   at12 : (a : ℕ) → a < clients → 1 ≤ s .cl a .number → s .cl a .stage ≡ 12
       → Transition s (Advance a) (out (withClientsₛ s (putₛ a (atStageₛ (clearC a (s .cl a)) 13) (clearC a) (s .cl))) (Answered (Stage 13)))
-  at13 : (a : ℕ) → a < clients → 1 ≤ s .cl a .number → s .cl a .stage ≡ 13 → Transition s (Advance a) (out (leave s a (s .dat)) (Answered (Done (s .cl a .commit))))
+  at13 : (a : ℕ) → a < clients → 1 ≤ s .cl a .number → s .cl a .stage ≡ 13
+      → Transition s (Advance a) (out (leave s a (s .dat)) (Answered (Done (s .cl a .commit))))
   abandons : (a : ℕ) → a < clients → 1 ≤ s .cl a .number → s .cl a .stage < 12 → Transition s (Abandon a) (figured (removedₛ s a))
   trims : length (s .dat) ≤ s .bounds .rows → Transition s Trim (trimmedₛ s)
   frees : Transition s Free (figured s)

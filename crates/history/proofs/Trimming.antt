@@ -68,18 +68,22 @@ module _ (ds cs : List Row) (l : ℕ) where
   between-view n (Some k) = says-and (decLt n k) (decLe k l) ∙ rw (says-lt n k, says-le k l)
 
   later-view : (x n : ℕ) (q : Row)
-      → says (Dec·and (ℕ-discrete (dataRowOf q .cell) x) (on? (λ k. Dec·and (decLt n k) (decLe k l)) (numOf (dataRowOf q .tag) (map commitRowOf cs)))) ≡ later cs l x n q
+      → says (Dec·and (ℕ-discrete (dataRowOf q .cell) x) (on? (λ k. Dec·and (decLt n k) (decLe k l))
+      (numOf (dataRowOf q .tag) (map commitRowOf cs)))) ≡ later cs l x n q
   unfolding later dataRowOf
   later-view x n q =
       says-and (ℕ-discrete (cellOf q) x) (on? (λ k. Dec·and (decLt n k) (decLe k l)) (numOf (tagOf q) (map commitRowOf cs)))
       ∙ rw (says-eq (cellOf q) x, commit-view (tagOf q) cs, between-view n (commitOf (tagOf q) cs))
 
   overtaken-view : (x : ℕ) (c : Number)
-      → says (on? (λ n. any? (λ r′. Dec·and (ℕ-discrete (r′ .cell) x) (on? (λ k. Dec·and (decLt n k) (decLe k l)) (numOf (r′ .tag) (map commitRowOf cs)))) (map dataRowOf ds)) (asNumber c)) ≡ overtaken l ds cs x c
+      → says (on? (λ n. any? (λ r′. Dec·and (ℕ-discrete (r′ .cell) x)
+      (on? (λ k. Dec·and (decLt n k) (decLe k l)) (numOf (r′ .tag) (map commitRowOf cs)))) (map dataRowOf ds)) (asNumber c)) ≡ overtaken
+      l ds cs x c
   unfolding on? overtaken
   overtaken-view x None = refl
   overtaken-view x (Some n) =
-      any-view (λ r′. Dec·and (ℕ-discrete (r′ .cell) x) (on? (λ k. Dec·and (decLt n k) (decLe k l)) (numOf (r′ .tag) (map commitRowOf cs)))) (later cs l x n) (later-view x n) ds
+      any-view (λ r′. Dec·and (ℕ-discrete (r′ .cell) x) (on? (λ k. Dec·and (decLt n k) (decLe k l)) (numOf (r′ .tag) (map commitRowOf cs))))
+      (later cs l x n) (later-view x n) ds
 
   passed-view : (r : Row) → not (says (passed? (map dataRowOf ds) (map commitRowOf cs) l (dataRowOf r))) ≡ stays l ds cs r
   unfolding passed? stays dataRowOf
@@ -96,7 +100,8 @@ not-not x = by-cases x
 
 bare-view : (ds : List Row) (c : Row) → not (says (bare? (map dataRowOf ds) (commitRowOf c))) ≡ inUse ds c
 unfolding bare? inUse commitRowOf
-bare-view ds c = not-not (any? (λ r. ℕ-discrete (r .tag) (commitTag c)) (map dataRowOf ds)) ∙ any-view (λ r. ℕ-discrete (r .tag) (commitTag c)) (hasTag (commitTag c)) (tag-view (commitTag c)) ds
+bare-view ds c = not-not (any? (λ r. ℕ-discrete (r .tag) (commitTag c)) (map dataRowOf ds)) ∙ any-view
+    (λ r. ℕ-discrete (r .tag) (commitTag c)) (hasTag (commitTag c)) (tag-view (commitTag c)) ds
 
 commits-left : (ds cs : List Row) → drop? (bare? (map dataRowOf ds)) (map commitRowOf cs) ≡ map commitRowOf (trimmedCommits ds cs)
 unfolding trimmedCommits
@@ -109,7 +114,8 @@ module _ (i : Image) where
   unfolding view
   rows-at l = data-left (i .dataRows) (i .commitRows) l
 
-  rows-left : drop? (passed? (view i .dat) (view i .comm) (m.lowₛ (view i))) (view i .dat) ≡ map dataRowOf (trimmedRows (low i) (i .dataRows) (i .commitRows))
+  rows-left : drop? (passed? (view i .dat) (view i .comm) (m.lowₛ (view i))) (view i .dat) ≡ map dataRowOf
+      (trimmedRows (low i) (i .dataRows) (i .commitRows))
   rows-left = rw (low-view i) (rows-at (low i))
 
   entries-left : (d : List Row) → drop? (bare? (map dataRowOf d)) (view i .comm) ≡ map commitRowOf (trimmedCommits d (i .commitRows))
@@ -118,7 +124,16 @@ module _ (i : Image) where
 
   left-as : (d c : List Row) (n : ℕ)
       → out (view (withRows i d c)) (Answered n)
-      ≡ out record { bounds = view i .bounds; W = view i .W; R = view i .R; C = view i .C; last = view i .last; dat = map dataRowOf d; comm = map commitRowOf c; cl = view i .cl } (Answered n)
+      ≡ out record {
+        bounds = view i .bounds;
+        W = view i .W;
+        R = view i .R;
+        C = view i .C;
+        last = view i .last;
+        dat = map dataRowOf d;
+        comm = map commitRowOf c;
+        cl = view i .cl;
+      } (Answered n)
   unfolding view
   left-as d c n = refl
 
@@ -126,7 +141,8 @@ module _ (i : Image) where
   unfolding trim trimmedTo m.trimmedₛ
   trimmed-view =
       let d : List Row = trimmedRows (low i) (i .dataRows) (i .commitRows) in
-      rw (rows-left, entries-left d, used-at i, length-map d dataRowOf) (left-as d (trimmedCommits d (i .commitRows)) (length (i .dataRows) - length d))
+      rw (rows-left, entries-left d, used-at i, length-map d dataRowOf)
+      (left-as d (trimmedCommits d (i .commitRows)) (length (i .dataRows) - length d))
 
   pub trim-does : Wellformed i → Simulates i Trim (trim i)
   trim-does z = simulates i Trim (trim i) trimmed-view (trims (omega (arith, used-at i, size-at i, z .dataFit)))

@@ -191,7 +191,15 @@ module _ (c : Clients) (z : Tidy c) (k : ℕ) (h : k < clients) where
 
   -- the fields with another stage, request number, commit number and lists, where the others stay
   abbrev fields : ℕ → ℕ → ℕ → ℕ → ℕ → Fields
-  fields g r n b a = record { stage = g; number = at c k .number; snapshot = at c k .snapshot; request = r; commit = n; requestWaits = b; commitWaits = a }
+  fields g r n b a = record {
+    stage = g;
+    number = at c k .number;
+    snapshot = at c k .snapshot;
+    request = r;
+    commit = n;
+    requestWaits = b;
+    commitWaits = a;
+  }
 
   pub stage-put : (g : ℕ) → clientsAs (setStage k g c) ≡ putₛ k (atStageₛ (clientsAs c k) g) same (clientsAs c)
   unfolding clientsAs clientOf
@@ -247,7 +255,8 @@ module _ (c : Clients) (z : Tidy c) (k : ℕ) (h : k < clients) where
         commitWaits = sym (set-getD (c .commitWaits) k 0) i;
       }
 
-  pub requestWaits-put : (g w : ℕ) → clientsAs (setStage k g (setRequestWaits k w c)) ≡ putₛ k (withRwait (clientsAs c k) g (member w)) same (clientsAs c)
+  pub requestWaits-put : (g w : ℕ)
+      → clientsAs (setStage k g (setRequestWaits k w c)) ≡ putₛ k (withRwait (clientsAs c k) g (member w)) same (clientsAs c)
   unfolding clientsAs clientOf
   requestWaits-put g w = ap clientsAs path ∙ clients-put o
     where
@@ -265,7 +274,8 @@ module _ (c : Clients) (z : Tidy c) (k : ℕ) (h : k < clients) where
         commitWaits = sym (set-getD (c .commitWaits) k 0) i;
       }
 
-  pub commitWaits-put : (g w : ℕ) → clientsAs (setStage k g (setCommitWaits k w c)) ≡ putₛ k (withCwait (clientsAs c k) g (member w)) same (clientsAs c)
+  pub commitWaits-put : (g w : ℕ)
+      → clientsAs (setStage k g (setCommitWaits k w c)) ≡ putₛ k (withCwait (clientsAs c k) g (member w)) same (clientsAs c)
   unfolding clientsAs clientOf
   commitWaits-put g w = ap clientsAs path ∙ clients-put o
     where
@@ -307,8 +317,10 @@ module _ (c : Clients) (z : Tidy c) (k : ℕ) (h : k < clients) where
     snapshot = getD-set-other (c .snapshot) k j 0 0 n i;
     request = getD-set-other (c .request) k j 0 0 n i;
     commit = getD-set-other (c .commit) k j 0 0 n i;
-    rwait = (ap member (getD-set-other (cleared k (c .requestWaits)) k j 0 0 n ∙ cleared-at (c .requestWaits) k j) ∙ member-clear (getD (c .requestWaits) j 0) k) i;
-    cwait = (ap member (getD-set-other (cleared k (c .commitWaits)) k j 0 0 n ∙ cleared-at (c .commitWaits) k j) ∙ member-clear (getD (c .commitWaits) j 0) k) i;
+    rwait = (ap member (getD-set-other (cleared k (c .requestWaits)) k j 0 0 n ∙ cleared-at (c .requestWaits) k j) ∙ member-clear
+        (getD (c .requestWaits) j 0) k) i;
+    cwait = (ap member (getD-set-other (cleared k (c .commitWaits)) k j 0 0 n ∙ cleared-at (c .commitWaits) k j) ∙ member-clear
+        (getD (c .commitWaits) j 0) k) i;
   }
 
   pub closed-put : clientsAs (closed k c) ≡ putₛ k m.closedₛ (clearBoth k) (clientsAs c)

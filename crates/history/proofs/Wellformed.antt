@@ -97,22 +97,71 @@ pub record Tidy (c : Clients) : Type 0 where
 
 module _ {c : Clients} (z : Tidy c) (k : ℕ) where
   tidy-stage : (g : ℕ) → g ≤ 13 → Tidy (setStage k g c)
-  tidy-stage g h = record { stage = array-set (z .stage) k g h; number = z .number; snapshot = z .snapshot; request = z .request; commit = z .commit; requestWaits = z .requestWaits; commitWaits = z .commitWaits }
+  tidy-stage g h = record {
+    stage = array-set (z .stage) k g h;
+    number = z .number;
+    snapshot = z .snapshot;
+    request = z .request;
+    commit = z .commit;
+    requestWaits = z .requestWaits;
+    commitWaits = z .commitWaits;
+  }
 
   tidy-request : (n : ℕ) → Tidy (setRequest k n c)
-  tidy-request n = record { stage = z .stage; number = z .number; snapshot = z .snapshot; request = array-set (z .request) k n tt; commit = z .commit; requestWaits = z .requestWaits; commitWaits = z .commitWaits }
+  tidy-request n = record {
+    stage = z .stage;
+    number = z .number;
+    snapshot = z .snapshot;
+    request = array-set (z .request) k n tt;
+    commit = z .commit;
+    requestWaits = z .requestWaits;
+    commitWaits = z .commitWaits;
+  }
 
   tidy-commit : (n : ℕ) → Tidy (setCommit k n c)
-  tidy-commit n = record { stage = z .stage; number = z .number; snapshot = z .snapshot; request = z .request; commit = array-set (z .commit) k n tt; requestWaits = z .requestWaits; commitWaits = z .commitWaits }
+  tidy-commit n = record {
+    stage = z .stage;
+    number = z .number;
+    snapshot = z .snapshot;
+    request = z .request;
+    commit = array-set
+        (z .commit) k n tt;
+    requestWaits = z .requestWaits;
+    commitWaits = z .commitWaits;
+  }
 
   tidy-requestWaits : (w : ℕ) → w < 2 ^ clients → Tidy (setRequestWaits k w c)
-  tidy-requestWaits w h = record { stage = z .stage; number = z .number; snapshot = z .snapshot; request = z .request; commit = z .commit; requestWaits = array-set (z .requestWaits) k w h; commitWaits = z .commitWaits }
+  tidy-requestWaits w h = record {
+    stage = z .stage;
+    number = z .number;
+    snapshot = z .snapshot;
+    request = z .request;
+    commit = z .commit;
+    requestWaits = array-set (z .requestWaits) k w h;
+    commitWaits = z .commitWaits;
+  }
 
   tidy-commitWaits : (w : ℕ) → w < 2 ^ clients → Tidy (setCommitWaits k w c)
-  tidy-commitWaits w h = record { stage = z .stage; number = z .number; snapshot = z .snapshot; request = z .request; commit = z .commit; requestWaits = z .requestWaits; commitWaits = array-set (z .commitWaits) k w h }
+  tidy-commitWaits w h = record {
+    stage = z .stage;
+    number = z .number;
+    snapshot = z .snapshot;
+    request = z .request;
+    commit = z .commit;
+    requestWaits = z .requestWaits;
+    commitWaits = array-set (z .commitWaits) k w h;
+  }
 
   tidy-unlisted : Tidy (unlisted k c)
-  tidy-unlisted = record { stage = z .stage; number = z .number; snapshot = z .snapshot; request = z .request; commit = z .commit; requestWaits = z .requestWaits; commitWaits = array-cleared (z .commitWaits) k }
+  tidy-unlisted = record {
+    stage = z .stage;
+    number = z .number;
+    snapshot = z .snapshot;
+    request = z .request;
+    commit = z .commit;
+    requestWaits = z .requestWaits;
+    commitWaits = array-cleared (z .commitWaits) k;
+  }
 
   tidy-opened : (n s : ℕ) → Tidy (opened k n s c)
   tidy-opened n s = record {
@@ -161,13 +210,37 @@ kept s e = record { fine = s; size = e }
 
 module _ {n : ℕ} {c : Clients} {d m : List Row} (h : Fine n c d m) where
   fine-clients : (b : Clients) → Tidy b → Fine n b d m
-  fine-clients b t = record { some = h .some; most = h .most; tidy = t; dataWide = h .dataWide; commitWide = h .commitWide; dataFit = h .dataFit; commitFit = h .commitFit }
+  fine-clients b t = record {
+    some = h .some;
+    most = h .most;
+    tidy = t;
+    dataWide = h .dataWide;
+    commitWide = h .commitWide;
+    dataFit = h .dataFit;
+    commitFit = h .commitFit;
+  }
 
   fine-data : (e : List Row) → Wide 24 e → length e ≤ n → Fine n c e m
-  fine-data e x l = record { some = h .some; most = h .most; tidy = h .tidy; dataWide = x; commitWide = h .commitWide; dataFit = l; commitFit = h .commitFit }
+  fine-data e x l = record {
+    some = h .some;
+    most = h .most;
+    tidy = h .tidy;
+    dataWide = x;
+    commitWide = h .commitWide;
+    dataFit = l;
+    commitFit = h .commitFit;
+  }
 
   fine-commits : (e : List Row) → Wide 8 e → length e ≤ n → Fine n c d e
-  fine-commits e x l = record { some = h .some; most = h .most; tidy = h .tidy; dataWide = h .dataWide; commitWide = x; dataFit = h .dataFit; commitFit = l }
+  fine-commits e x l = record {
+    some = h .some;
+    most = h .most;
+    tidy = h .tidy;
+    dataWide = h .dataWide;
+    commitWide = x;
+    dataFit = h .dataFit;
+    commitFit = l;
+  }
 
 -- ---- tests
 
@@ -204,7 +277,8 @@ module _ (i : Image) (h : Wellformed i) where
   read-kept : (k x : ℕ) → Kept i (read k x i)
   unfolding read
   read-kept k x =
-      kept-if (leb clients k) (same _) (kept-if (leb cells x) (same _) (kept-if (not (isOpen i k)) (same _) (kept-if (ltb 11 (stageOf i k)) (same _) (same _))))
+      kept-if (leb clients k) (same _) (kept-if (leb cells x) (same _)
+      (kept-if (not (isOpen i k)) (same _) (kept-if (ltb 11 (stageOf i k)) (same _) (same _))))
 
   added-kept : (k x : ℕ) (v : List ℕ) → length v ≡ 16 → Kept i (added k x v i)
   unfolding added
@@ -233,7 +307,8 @@ module _ (i : Image) (h : Wellformed i) where
   unfolding removed
   removed-kept k =
       let p : Row → Bool = λ r. not (hasTag (numberOf i k) r) in
-      fine-clients (fine-data h (filter p (i .dataRows)) (filter-wide 24 p (i .dataRows) (h .dataWide)) (omega (arith, filter-fewer p (i .dataRows), h .dataFit)))
+      fine-clients (fine-data h (filter p (i .dataRows)) (filter-wide 24 p (i .dataRows) (h .dataWide))
+      (omega (arith, filter-fewer p (i .dataRows), h .dataFit)))
       _ (tidy-closed (h .tidy) k)
 
   removed-rows : (k : ℕ) → removed k i .rows ≡ i .rows
@@ -242,7 +317,8 @@ module _ (i : Image) (h : Wellformed i) where
 
   abandon-kept : (k : ℕ) → Kept i (abandon k i)
   unfolding abandon
-  abandon-kept k = kept-if (leb clients k) (same _) (kept-if (not (isOpen i k)) (same _) (kept-if (leb 12 (stageOf i k)) (same _) (kept (removed-kept k) (removed-rows k))))
+  abandon-kept k = kept-if (leb clients k) (same _) (kept-if (not (isOpen i k)) (same _)
+      (kept-if (leb 12 (stageOf i k)) (same _) (kept (removed-kept k) (removed-rows k))))
 
   free-kept : Kept i (free i)
   unfolding free
@@ -255,7 +331,8 @@ module _ (i : Image) (h : Wellformed i) where
       let d : List Row = filter p (i .dataRows) in
       let q : Row → Bool = inUse d in
       let g = fine-data h d (filter-wide 24 p (i .dataRows) (h .dataWide)) (omega (arith, filter-fewer p (i .dataRows), h .dataFit)) in
-      kept (fine-commits g (filter q (i .commitRows)) (filter-wide 8 q (i .commitRows) (h .commitWide)) (omega (arith, filter-fewer q (i .commitRows), h .commitFit))) refl
+      kept (fine-commits g (filter q (i .commitRows)) (filter-wide 8 q (i .commitRows) (h .commitWide))
+      (omega (arith, filter-fewer q (i .commitRows), h .commitFit))) refl
 
 -- ---- the steps of Advance: a claim about each step of the table
 
@@ -277,12 +354,14 @@ goOn-kept g l k i h = kept (fine-clients h _ (tidy-stage (h .tidy) k g l)) refl
 
 enter-kept : Keeps enter
 unfolding enter finished
-enter-kept k i h = kept-if (not (any (hasTag (numberOf i k)) (i .dataRows))) (kept (fine-clients h _ (tidy-closed (h .tidy) k)) refl) (goOn-kept 1 (omega arith) k i h)
+enter-kept k i h = kept-if (not (any (hasTag (numberOf i k)) (i .dataRows))) (kept (fine-clients h _ (tidy-closed (h .tidy) k)) refl)
+    (goOn-kept 1 (omega arith) k i h)
 
 takeRequest-kept : Keeps takeRequest
 unfolding takeRequest goOn
 takeRequest-kept k i h =
-    kept-if (eqb (i .counters .requested) top) (kept h refl) (kept (fine-clients h _ (tidy-stage (tidy-request (h .tidy) k _) k 2 (omega arith))) refl)
+    kept-if (eqb (i .counters .requested) top) (kept h refl) (kept
+    (fine-clients h _ (tidy-stage (tidy-request (h .tidy) k _) k 2 (omega arith))) refl)
 
 -- after a look
 looked-kept : (g : ℕ) → g ≤ 13 → (k w : ℕ) (i j : Image) → Wellformed j → j .rows ≡ i .rows → Kept i (looked g k w j)
@@ -300,7 +379,8 @@ unfolding lookRequests
 lookRequests-kept k i h =
     let w : ℕ = getD (i .clients .requestWaits) k 0 in
     let p : ℕ → Bool = λ j. struck requestQueue (requestOf i k) (stageOf i j) (requestOf i j) in
-    looked-kept 5 (omega arith) k (strike p w clients) i _ (fine-clients h _ (tidy-requestWaits (h .tidy) k _ (omega (arith, strike-le p w clients, h .tidy .requestWaits .each k)))) refl
+    looked-kept 5 (omega arith) k (strike p w clients) i _ (fine-clients h _
+    (tidy-requestWaits (h .tidy) k _ (omega (arith, strike-le p w clients, h .tidy .requestWaits .each k)))) refl
 
 checked-kept : (c : Number) → Keeps (checked c)
 checked-kept None k i h = goOn-kept 6 (omega arith) k i h
@@ -324,14 +404,16 @@ unfolding lookCommits
 lookCommits-kept k i h =
     let w : ℕ = getD (i .clients .commitWaits) k 0 in
     let p : ℕ → Bool = λ j. struck commitQueue (commitNumberOf i k) (stageOf i j) (commitNumberOf i j) in
-    looked-kept 11 (omega arith) k (strike p w clients) i _ (fine-clients h _ (tidy-commitWaits (h .tidy) k _ (omega (arith, strike-le p w clients, h .tidy .commitWaits .each k)))) refl
+    looked-kept 11 (omega arith) k (strike p w clients) i _ (fine-clients h _
+    (tidy-commitWaits (h .tidy) k _ (omega (arith, strike-le p w clients, h .tidy .commitWaits .each k)))) refl
 
 addCommit-kept : Keeps addCommit
 unfolding addCommit goOn
 addCommit-kept k i h =
     let r : Row = commitRow (commitNumberOf i k) (numberOf i k) in
     kept-else (leb (i .rows) (length (i .commitRows))) (kept h refl) (λ e.
-    kept (fine-clients (fine-commits h (i .commitRows ++ (r ∷ [])) (wide-append 8 (i .commitRows) (r ∷ []) (h .commitWide) (length-commitRow (commitNumberOf i k) (numberOf i k), tt))
+    kept (fine-clients (fine-commits h (i .commitRows ++ (r ∷ []))
+    (wide-append 8 (i .commitRows) (r ∷ []) (h .commitWide) (length-commitRow (commitNumberOf i k) (numberOf i k), tt))
     (simp length-append (omega (arith, leb-false (i .rows) (length (i .commitRows)) e)))) _ (tidy-stage (h .tidy) k 12 (omega arith))) refl)
 
 leaveCommits-kept : Keeps leaveCommits

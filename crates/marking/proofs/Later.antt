@@ -84,11 +84,13 @@ module _ (m : ℕ) (c : List ℕ) (e : orderlyCommits (rowsIn 8 m c) ≡ true) w
         commit : (k : ℕ) → j + 1 ≤ k → k < m → marksCell low ds x (rowAt 8 k c) ≡ true → any (later cs low x own) ds ≡ true
         commit k l g q =
             let b : Bool = any (isOwn (commitTag (rowAt 8 k c)) x) ds in
-            some-in (isOwn (commitTag (rowAt 8 k c)) x) 24 n s (any (later cs low x own) ds ≡ true) (if-right (leb (commitNumber (rowAt 8 k c)) low) b q)
+            some-in (isOwn (commitTag (rowAt 8 k c)) x) 24 n s (any (later cs low x own) ds ≡ true)
+            (if-right (leb (commitNumber (rowAt 8 k c)) low) b q)
             (row k l g (leb-true _ _ (if-left (leb (commitNumber (rowAt 8 k c)) low) b q)))
 
     -- a row of committed row j stays just if its cell is not served from the next one on
-    pub stays-served : (r : Row) → tagOf r ≡ commitTag (rowAt 8 j c) → cellOf r ≡ x → stays low ds cs r ≡ not (marked low ds (rowsFrom 8 m (j + 1) c) x)
+    pub stays-served : (r : Row) → tagOf r ≡ commitTag (rowAt 8 j c) → cellOf r ≡ x
+        → stays low ds cs r ≡ not (marked low ds (rowsFrom 8 m (j + 1) c) x)
     unfolding stays overtaken
     stays-served r t q =
         rw (number-of m c e j (tagOf r) h (sym t), q) (ap not (both-ways (any (later cs low x own) ds)

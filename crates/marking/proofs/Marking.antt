@@ -37,12 +37,14 @@ any-filter p q [] = refl
 any-filter p q (r ∷ rs) = go (q r) (any-filter p q rs)
   where
     go : (b : Bool) → any p (filter q rs) ≡ any (λ r. if q r then p r else false) rs
-        → any p (if b then (r ∷ filter q rs) else filter q rs) ≡ (if (if b then p r else false) then true else any (λ r. if q r then p r else false) rs)
+        → any p (if b then (r ∷ filter q rs) else filter q rs) ≡ (if (if b then p r else false) then true else any
+        (λ r. if q r then p r else false) rs)
     go true e = ap (λ (b : Bool). if p r then true else b) e
     go false e = e
 
 -- two tests that say the same of each row
-any-same : (p q : Row → Bool) (w n : ℕ) (s : List ℕ) → ((k : ℕ) → k < n → p (rowAt w k s) ≡ q (rowAt w k s)) → any p (rowsIn w n s) ≡ any q (rowsIn w n s)
+any-same : (p q : Row → Bool) (w n : ℕ) (s : List ℕ) → ((k : ℕ) → k < n → p (rowAt w k s) ≡ q (rowAt w k s))
+    → any p (rowsIn w n s) ≡ any q (rowsIn w n s)
 any-same p q w n s same =
     both-ways (any p (rowsIn w n s)) (any q (rowsIn w n s))
     (λ e. some-in p w n s (any q (rowsIn w n s) ≡ true) e (λ k h f. any-at q w n s k h (sym (same k h) ∙ f)))
@@ -182,7 +184,8 @@ module _ (low n m : ℕ) (s c : List ℕ) where
 
       -- the row marks what it serves
       marks-more : (marks : List ℕ) → length marks ≡ 1024
-          → ((x : ℕ) → x < 1024 → getD marks x 0 ≡ due (j + 1) (marksCell low (rowsIn 24 n s) x (rowAt 8 j c)) (getD marks₀ x 0)) → Marks low n m s c j marks
+          → ((x : ℕ) → x < 1024 → getD marks x 0 ≡ due (j + 1) (marksCell low (rowsIn 24 n s) x (rowAt 8 j c)) (getD marks₀ x 0)) → Marks
+          low n m s c j marks
       marks-more marks e new =
           record {
             size = e;
@@ -192,7 +195,8 @@ module _ (low n m : ℕ) (s c : List ℕ) where
         where
           at-most : (x : ℕ) → x < 1024 → (k : ℕ) → k ≤ j → ltb k (getD marks x 0) ≡ Served j x
           at-most x l k a =
-              rw (new x l, served-step x, ← g .so-far x l) (due-below (getD marks₀ x 0) j (unmarked x l) (marksCell low (rowsIn 24 n s) x (rowAt 8 j c)) k a)
+              rw (new x l, served-step x, ← g .so-far x l) (due-below (getD marks₀ x 0) j (unmarked x l)
+              (marksCell low (rowsIn 24 n s) x (rowAt 8 j c)) k a)
 
           after : (k x : ℕ) → j ≤ k → x < 1024 → Dec (j < k) → ltb k (getD marks x 0) ≡ Served k x
           after k x a l (yes d) =
@@ -202,7 +206,8 @@ module _ (low n m : ℕ) (s c : List ℕ) where
               let z : k ≡ j = omega (arith, a, d) in
               rw z (at-most x l j (omega arith))
 
-      module _ (ordered : orderlyCommits (rowsIn 8 m c) ≡ true) (small : (i : ℕ) → i < n → tagOf (rowAt 24 i s) ≡ own → cellOf (rowAt 24 i s) < 1024) where
+      module _ (ordered : orderlyCommits (rowsIn 8 m c) ≡ true) (small : (i : ℕ) → i < n → tagOf (rowAt 24 i s) ≡ own → cellOf
+          (rowAt 24 i s) < 1024) where
         -- a row of the transaction stays just if no later row has marked its cell
         stays-unmarked : (i : ℕ) → i < n → tagOf (rowAt 24 i s) ≡ own
             → stays low (rowsIn 24 n s) (rowsIn 8 m c) (rowAt 24 i s) ≡ not (ltb (j + 1) (getD marks₀ (cellOf (rowAt 24 i s)) 0))

@@ -142,9 +142,11 @@ module _ (counts : Bool) (tag mark n j : ℕ) (s marks₀ flags₀ uses₀ : Lis
               rw t (sym (rw t) ∙ m .each x l)
           each x l (no q) = rw (← rest x q) (m .each x l)
 
-          flag : (k : ℕ) → k < n → Dec (k ≡ i) → getD (set flags i 0) k 0 ≡ (if ltb k (i + 1) then judge tag mark s marks₀ flags₀ k else getD flags₀ k 0)
+          flag : (k : ℕ) → k < n → Dec (k ≡ i)
+              → getD (set flags i 0) k 0 ≡ (if ltb k (i + 1) then judge tag mark s marks₀ flags₀ k else getD flags₀ k 0)
           flag k l (yes q) =
-              let t : ltb mark (getD marks₀ (cellOf (rowAt 24 i s)) 0) ≡ true = rw (← f) (sym (m .above cell g) ∙ lt-ltb mark (getD marks cell 0) b) in
+              let t : ltb mark (getD marks₀ (cellOf (rowAt 24 i s)) 0) ≡ true = rw (← f)
+              (sym (m .above cell g) ∙ lt-ltb mark (getD marks cell 0) b) in
               rw (q, getD-set-same flags i 0 0 (omega (arith, m .flags-size)), lt-ltb i (i + 1) (omega arith), tag-yes tag (rowAt 24 i s) e, t)
           flag k l (no q) = rw (getD-set-other flags i k 0 0 q, apart k q) (m .flag k l)
 
@@ -183,7 +185,8 @@ module _ (counts : Bool) (tag mark n j : ℕ) (s marks₀ flags₀ uses₀ : Lis
             each : (x : ℕ) → x < 1024 → Dec (x ≡ cell) → due mark (wrote (rowsFrom 24 n (i + 1) s) tag x) (getD (set marks cell mark) x 0) ≡ due mark
                 (wrote (rowsIn 24 n s) tag x) (getD marks₀ x 0)
             each x l (yes q) =
-                let w : wrote (rowsFrom 24 n i s) tag cell ≡ true = wrote-hit tag cell 24 n i s h e ∙ rw (eq-eqb (cellOf (rowAt 24 i s)) cell (sym f)) in
+                let w : wrote (rowsFrom 24 n i s) tag cell ≡ true = wrote-hit tag cell 24 n i s h e ∙ rw
+                (eq-eqb (cellOf (rowAt 24 i s)) cell (sym f)) in
                 let old : due mark (wrote (rowsFrom 24 n i s) tag cell) (getD marks cell 0) ≡ mark = rw (not-above, w) in
                 rw (q, stored, le-ltb mark mark (omega arith)) (if-same (wrote (rowsFrom 24 n (i + 1) s) tag cell) mark ∙ sym old ∙ before cell g)
             each x l (no q) = rw (getD-set-other marks cell x mark 0 q, ← rest x (λ z. q (sym z))) (before x l)

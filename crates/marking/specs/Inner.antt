@@ -17,13 +17,15 @@ use Rattle.spec.specs.Orderly.{isCommitOf}
 pub record Judged (low n m : ℕ) (s c : List ℕ) (j : ℕ) (flags : List ℕ) : Type 0 where
   pub size : length flags ≡ 1024
   pub each : (i : ℕ) → i < n
-      → getD flags i 0 ≡ (if any (isCommitOf (tagOf (rowAt dataWidth i s))) (rowsFrom commitWidth m j c) then (if stays low (dataRowsIn n s) (commitRowsIn m c) (rowAt dataWidth i s) then 1 else 0) else 1)
+      → getD flags i 0 ≡ (if any (isCommitOf (tagOf (rowAt dataWidth i s))) (rowsFrom commitWidth m j c) then
+      (if stays low (dataRowsIn n s) (commitRowsIn m c) (rowAt dataWidth i s) then 1 else 0) else 1)
 
 -- the committed rows' flags after committed row j: from row j on they are right, before it they are 0
 pub record Used (low n m : ℕ) (s c : List ℕ) (j : ℕ) (uses : List ℕ) : Type 0 where
   pub size : length uses ≡ 1024
   pub before : (k : ℕ) → k < j → getD uses k 0 ≡ 0
-  pub each : (k : ℕ) → j ≤ k → k < m → getD uses k 0 ≡ (if inUse (trimmedRows low (dataRowsIn n s) (commitRowsIn m c)) (rowAt commitWidth k c) then 1 else 0)
+  pub each : (k : ℕ) → j ≤ k → k < m
+      → getD uses k 0 ≡ (if inUse (trimmedRows low (dataRowsIn n s) (commitRowsIn m c)) (rowAt commitWidth k c) then 1 else 0)
 
 -- The rows that are done after committed row j are plain. `seen` has, of each cell, one more than the number of the last of them that wrote it, 0 for
 -- none.

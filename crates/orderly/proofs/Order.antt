@@ -172,7 +172,8 @@ module _ (m : ℕ) (c : List ℕ) where
 
     pub distinct : (j k : ℕ) → j < k → k < m → commitTag (rowAt 8 j c) ≡ commitTag (rowAt 8 k c) → ⊥
     unfolding isCommitOf
-    distinct j k l h q = differ (from-at (isCommitOf (commitTag (rowAt 8 j c))) 8 m c (j + 1) k (omega arith) h (eq-eqb _ _ (sym q))) (alone j (omega arith))
+    distinct j k l h q = differ (from-at (isCommitOf (commitTag (rowAt 8 j c))) 8 m c (j + 1) k (omega arith) h (eq-eqb _ _ (sym q)))
+        (alone j (omega arith))
 
     pub number-of : (j tag : ℕ) → j < m → commitTag (rowAt 8 j c) ≡ tag → commitOf tag (rowsIn 8 m c) ≡ Some (commitNumber (rowAt 8 j c))
     number-of j tag h q = commit-first tag m c j h q (λ i l f. distinct i j l h (f ∙ sym q))
@@ -254,7 +255,8 @@ unfolding orderly
 disorder-rows ds cs e = rw e (if-same (orderlyCommits cs) false)
 
 -- where the committed rows are orderly a test of the data rows decides
-pub order-decided : (b : Bool) (ds cs : List Row) → orderlyCommits cs ≡ true → (b ≡ true → orderlyRows ds ≡ true) → (b ≡ false → orderlyRows ds ≡ false) → b
+pub order-decided : (b : Bool) (ds cs : List Row) → orderlyCommits cs ≡ true → (b ≡ true → orderlyRows ds ≡ true)
+    → (b ≡ false → orderlyRows ds ≡ false) → b
     ≡ orderly ds cs
 unfolding orderly
 order-decided true ds cs o f g = rw (o, f refl)

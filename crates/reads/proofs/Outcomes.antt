@@ -14,7 +14,8 @@ use Rattle.spec.specs.Calls.{replies, reading, read}
 use Rattle.spec.specs.Bytes.{decode}
 
 module _ (s : Store) (d c : List ℕ) (k x : ℕ) (h : k < clients) (g : x < 1024) (n : getD (s .number) k 0 ≡ 0 → ⊥) (t : getD (s .stage) k 0 ≤ 11) where
-  pub read-found : (o f : Lookup) → o ≡ f → o ≡ lookFor (getD (s .number) k 0) x (getD (s .snapshot) k 0) (rowsIn 24 (s .used) d) (rowsIn 8 (s .entries) c)
+  pub read-found : (o f : Lookup) → o ≡ f
+      → o ≡ lookFor (getD (s .number) k 0) x (getD (s .snapshot) k 0) (rowsIn 24 (s .used) d) (rowsIn 8 (s .entries) c)
       → read k x (decode s d c) ≡ replies (decode s d c) (reading f)
   unfolding read decode
   read-found o f p e =

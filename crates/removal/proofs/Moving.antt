@@ -29,7 +29,8 @@ part-more : (k : ℕ) (s : List ℕ) (at : ℕ) → at < length s → part at (s
 part-more k s at h = rw (drop-cons s at 0 h)
 
 part-eight : (s : List ℕ) (at : ℕ) → at + 8 ≤ length s
-    → part at 8 s ≡ getD s at 0 ∷ getD s (at + 1) 0 ∷ getD s (at + 2) 0 ∷ getD s (at + 3) 0 ∷ getD s (at + 4) 0 ∷ getD s (at + 5) 0 ∷ getD s (at + 6) 0 ∷ getD s (at + 7) 0 ∷ []
+    → part at 8 s ≡ getD s at 0 ∷ getD s (at + 1) 0 ∷ getD s (at + 2) 0 ∷ getD s (at + 3) 0 ∷ getD s (at + 4) 0 ∷ getD s (at + 5) 0 ∷ getD s
+    (at + 6) 0 ∷ getD s (at + 7) 0 ∷ []
 part-eight s at h =
     simp towards-suc
     (part-more 7 s at (omega arith)
@@ -51,7 +52,9 @@ spliced-eight s at a b c d e f g h l = simp towards-suc (simp towards-suc at (se
 
 -- eight reads, then eight stores
 pub word-moved : (s : List ℕ) (from to : ℕ) → from + 8 ≤ length s → to + 8 ≤ length s
-    → set (set (set (set (set (set (set (set s to (getD s from 0)) (to + 1) (getD s (from + 1) 0)) (to + 2) (getD s (from + 2) 0)) (to + 3) (getD s (from + 3) 0)) (to + 4) (getD s (from + 4) 0)) (to + 5) (getD s (from + 5) 0)) (to + 6) (getD s (from + 6) 0)) (to + 7) (getD s (from + 7) 0)
+    → set (set (set (set (set (set (set (set s to (getD s from 0)) (to + 1) (getD s (from + 1) 0)) (to + 2) (getD s (from + 2) 0)) (to + 3)
+    (getD s (from + 3) 0)) (to + 4) (getD s (from + 4) 0)) (to + 5) (getD s (from + 5) 0)) (to + 6) (getD s (from + 6) 0)) (to + 7)
+    (getD s (from + 7) 0)
     ≡ spliced to (part from 8 s) s
 word-moved s from to h l = rw (part-eight s from h) (spliced-eight s to _ _ _ _ _ _ _ _ l)
 
@@ -136,7 +139,8 @@ module _ (flags : List ℕ) (w n : ℕ) (s : List ℕ) where
           size = rw row (length-spliced (w * to) (rowAt w i s) buf (w * (to + 1)) next room ∙ m .size);
           count = omega (arith, m .count, ap length k);
           front = rw (row, take-spliced (w * to) (rowAt w i s) buf (w * (to + 1)) next room, append-assoc) (rw k at (m .front));
-          rest = rw (row, drop-spliced (w * to) (rowAt w i s) buf (w * (to + 1)) next room) (drop-later (w * to) (w * (to + 1)) buf s (omega arith) (m .rest));
+          rest = rw (row, drop-spliced (w * to) (rowAt w i s) buf (w * (to + 1)) next room)
+              (drop-later (w * to) (w * (to + 1)) buf s (omega arith) (m .rest));
         }
 
     -- the rows before the first that goes
@@ -184,14 +188,16 @@ pub moving-room : (flags : List ℕ) (w n : ℕ) (s buf : List ℕ) (to i : ℕ)
 moving-room flags w n s buf to i l h m = (mul-le-mul-left w (m .fewer), omega (arith, row-inside w i n (length s) h l))
 
 -- the freed part lies within the buffer
-pub closing-up : (flags : List ℕ) (w n : ℕ) (s : List ℕ) (r : ℕ) → 0 < n → r ≡ length (keptFrom flags 0 (rowsIn w n s)) → (r ≤ n) × (w * r ≤ w * n) × (w ≤ w * n)
+pub closing-up : (flags : List ℕ) (w n : ℕ) (s : List ℕ) (r : ℕ) → 0 < n → r ≡ length (keptFrom flags 0 (rowsIn w n s))
+    → (r ≤ n) × (w * r ≤ w * n) × (w ≤ w * n)
 closing-up flags w n s r h e =
     let few : r ≤ n = omega (arith, kept-at-most flags w n s) in
     let one : w * 1 ≤ w * n = mul-le-mul-left w h in
     (few, mul-le-mul-left w few, omega arith)
 
 -- the freed part, cleared
-pub freed-cleared : (w n r : ℕ) (kept : List Row) (s buf : List ℕ) → r ≡ length kept → r ≤ n → w * n ≤ length s → buf ≡ flatten kept ++ drop (w * r) s → length buf ≡ length s
+pub freed-cleared : (w n r : ℕ) (kept : List Row) (s buf : List ℕ) → r ≡ length kept → r ≤ n → w * n ≤ length s
+    → buf ≡ flatten kept ++ drop (w * r) s → length buf ≡ length s
     → putMid (w * r) (w * n - w * r) buf (replicate (length (part (w * r) (w * n - w * r) buf)) 0) ≡ layout w n kept s
 freed-cleared w n r kept s buf e g l f q =
     let low : w * r ≤ w * n = mul-le-mul-left w g in
@@ -205,15 +211,18 @@ freed-cleared w n r kept s buf e g l f q =
 -- ---- flags
 
 -- the flag of a row that passes is not 0
-pub flag-stays : (p : Row → Bool) (flags : List ℕ) (w n : ℕ) (s : List ℕ) (k : ℕ) → Flags p w n s flags → k < n → p (rowAt w k s) ≡ true → getD flags k 0 ≡ 0 → ⊥
+pub flag-stays : (p : Row → Bool) (flags : List ℕ) (w n : ℕ) (s : List ℕ) (k : ℕ) → Flags p w n s flags → k < n → p (rowAt w k s) ≡ true
+    → getD flags k 0 ≡ 0 → ⊥
 flag-stays p flags w n s k h l e z = eqb-false 1 0 refl (sym (h .each k l ∙ rw e) ∙ z)
 
 -- flags that were made by a test keep the rows that pass it
-pub kept-where : (p : Row → Bool) (flags : List ℕ) (w n : ℕ) (s : List ℕ) → Flags p w n s flags → keptFrom flags 0 (rowsIn w n s) ≡ filter p (rowsIn w n s)
+pub kept-where : (p : Row → Bool) (flags : List ℕ) (w n : ℕ) (s : List ℕ) → Flags p w n s flags
+    → keptFrom flags 0 (rowsIn w n s) ≡ filter p (rowsIn w n s)
 unfolding filter keptFrom
 kept-where p flags w n s h =
     rw (rows-start w n s)
-    (to-start (λ i. keptFrom flags i (rowsFrom w n i s) ≡ filter p (rowsFrom w n i s)) n (rw (rows-end w n n s (omega arith))) (λ i l rest. step (p (rowAt w i s)) i refl l rest))
+    (to-start (λ i. keptFrom flags i (rowsFrom w n i s) ≡ filter p (rowsFrom w n i s)) n (rw (rows-end w n n s (omega arith)))
+    (λ i l rest. step (p (rowAt w i s)) i refl l rest))
   where
     step : (b : Bool) (i : ℕ) → p (rowAt w i s) ≡ b → i < n
         → keptFrom flags (i + 1) (rowsFrom w n (i + 1) s) ≡ filter p (rowsFrom w n (i + 1) s)
@@ -226,7 +235,8 @@ pub filter-all : (p : Row → Bool) (w n : ℕ) (s : List ℕ) → ((k : ℕ) �
 unfolding filter
 filter-all p w n s h =
     rw (rows-start w n s)
-    (to-start (λ i. filter p (rowsFrom w n i s) ≡ rowsFrom w n i s) n (rw (rows-end w n n s (omega arith))) (λ i l rest. rw (rows-step w n i s l, h i l, rest)))
+    (to-start (λ i. filter p (rowsFrom w n i s) ≡ rowsFrom w n i s) n (rw (rows-end w n n s (omega arith)))
+    (λ i l rest. rw (rows-step w n i s l, h i l, rest)))
 
 -- where no flag is 0 all rows stay
 pub kept-all : (flags : List ℕ) (w n : ℕ) (s : List ℕ) → ((k : ℕ) → k < n → getD flags k 0 ≡ 0 → ⊥) → keptFrom flags 0 (rowsIn w n s) ≡ rowsIn w n s

@@ -101,7 +101,8 @@ module _ (p : Row → Bool) (w n : ℕ) (s : List ℕ) where
   pub any-at : (k : ℕ) → k < n → p (rowAt w k s) ≡ true → any p (rowsIn w n s) ≡ true
   any-at k h e =
       rw (rows-start w n s)
-      (to-start (λ i. any p (rowsFrom w n i s) ≡ true) k (any-step p w n k s h ∙ rw e) (λ i l rest. any-step p w n i s (omega arith) ∙ rw rest (if-same (p (rowAt w i s)) true)))
+      (to-start (λ i. any p (rowsFrom w n i s) ≡ true) k (any-step p w n k s h ∙ rw e)
+      (λ i l rest. any-step p w n i s (omega arith) ∙ rw rest (if-same (p (rowAt w i s)) true)))
 
   -- no row passes
   pub any-none : ((k : ℕ) → k < n → p (rowAt w k s) ≡ false) → any p (rowsIn w n s) ≡ false
@@ -132,7 +133,8 @@ module _ (tag n : ℕ) (s : List ℕ) where
       → commitOf tag (rowsIn 8 n s) ≡ Some (commitNumber (rowAt 8 k s))
   commit-first k h e before =
       rw (rows-start 8 n s)
-      (to-start (λ i. commitOf tag (rowsFrom 8 n i s) ≡ Some (commitNumber (rowAt 8 k s))) k (commit-hit k h e) (λ i l rest. commit-miss i (omega arith) (before i l) ∙ rest))
+      (to-start (λ i. commitOf tag (rowsFrom 8 n i s) ≡ Some (commitNumber (rowAt 8 k s))) k (commit-hit k h e)
+      (λ i l rest. commit-miss i (omega arith) (before i l) ∙ rest))
 
 -- ---- the newest row
 
@@ -153,7 +155,8 @@ module _ (f : Row → Number) (w n i : ℕ) (s : List ℕ) where
 
 module _ (tag w n i : ℕ) (s : List ℕ) where
   pub cells-hit : i < n → tagOf (rowAt w i s) ≡ tag
-      → cellsOf tag (rowsFrom w n i s) ≡ (if wrote (rowsFrom w n (i + 1) s) tag (cellOf (rowAt w i s)) then 0 else 1) + cellsOf tag (rowsFrom w n (i + 1) s)
+      → cellsOf tag (rowsFrom w n i s) ≡ (if wrote (rowsFrom w n (i + 1) s) tag (cellOf (rowAt w i s)) then 0 else 1) + cellsOf tag
+      (rowsFrom w n (i + 1) s)
   unfolding cellsOf
   cells-hit h e = rw (rows-step w n i s h, tag-yes tag (rowAt w i s) e)
 
@@ -198,7 +201,8 @@ newer-assoc (Version i m) (Version j n) Nothing = go (ltb m n)
     go false = refl
 newer-assoc (Version i m) (Version j n) (Version k o) = go (ltb m n) (ltb n o) refl refl
   where
-    go : (t u : Bool) → ltb m n ≡ t → ltb n o ≡ u → newer (if t then Version j n else Version i m) (Version k o) ≡ newer (Version i m) (if u then Version k o else Version j n)
+    go : (t u : Bool) → ltb m n ≡ t → ltb n o ≡ u
+        → newer (if t then Version j n else Version i m) (Version k o) ≡ newer (Version i m) (if u then Version k o else Version j n)
     go true true e f = rw (f, lt-ltb m o (omega (arith, ltb-true m n e, ltb-true n o f)))
     go true false e f = rw (f, e)
     go false true e f = refl
@@ -234,7 +238,8 @@ lesser-none (Some n) = refl
 -- ---- whether the transaction wrote a cell
 
 module _ (tag cell w n i : ℕ) (s : List ℕ) where
-  pub wrote-hit : i < n → tagOf (rowAt w i s) ≡ tag → wrote (rowsFrom w n i s) tag cell ≡ (if eqb (cellOf (rowAt w i s)) cell then true else wrote (rowsFrom w n (i + 1) s) tag cell)
+  pub wrote-hit : i < n → tagOf (rowAt w i s) ≡ tag
+      → wrote (rowsFrom w n i s) tag cell ≡ (if eqb (cellOf (rowAt w i s)) cell then true else wrote (rowsFrom w n (i + 1) s) tag cell)
   unfolding wrote any
   wrote-hit h e = rw (rows-step w n i s h, own-tag tag cell (rowAt w i s) e)
 
@@ -253,7 +258,8 @@ unfolding any
 any-append p [] ys = refl
 any-append p (x ∷ xs) ys = go (p x) (any-append p xs ys)
   where
-    go : (t : Bool) → any p (xs ++ ys) ≡ (any p xs || any p ys) → (if t then true else any p (xs ++ ys)) ≡ ((if t then true else any p xs) || any p ys)
+    go : (t : Bool) → any p (xs ++ ys) ≡ (any p xs || any p ys)
+        → (if t then true else any p (xs ++ ys)) ≡ ((if t then true else any p xs) || any p ys)
     go true h = refl
     go false h = h
 

@@ -43,7 +43,8 @@ marked-other marks cell x n = go (ltb cell 1024)
 -- a row of the transaction, and one of another
 module _ (tag n i : ℕ) (s : List ℕ) where
   pub mark-hit : i < n → tagOf (rowAt 24 i s) ≡ tag → (marks : List ℕ) → length marks ≡ 1024 → (x : ℕ) → x < 1024
-      → (if wrote (rowsFrom 24 n i s) tag x then 1 else getD marks x 0) ≡ (if wrote (rowsFrom 24 n (i + 1) s) tag x then 1 else getD (marks-written marks (cellOf (rowAt 24 i s))) x 0)
+      → (if wrote (rowsFrom 24 n i s) tag x then 1 else getD marks x 0) ≡ (if wrote (rowsFrom 24 n (i + 1) s) tag x then 1 else getD
+      (marks-written marks (cellOf (rowAt 24 i s))) x 0)
   mark-hit h e marks l x b = rw (wrote-hit tag x 24 n i s h e) (go (eqb (cellOf (rowAt 24 i s)) x) refl (wrote (rowsFrom 24 n (i + 1) s) tag x))
     where
       go : (t : Bool) → eqb (cellOf (rowAt 24 i s)) x ≡ t → (u : Bool)

@@ -18,7 +18,8 @@ skip-by F (suc d) from h =
     let e : from + 1 + d ≡ from + suc d = omega arith in
     h from (omega arith) (omega arith) ∙ skip-by F d (from + 1) (λ k l b. h k (omega arith) (omega arith)) ∙ ap F e
 
-pub skip : {A : Type 0} {Hit : ℕ → Type 0} {from n r : ℕ} (F : ℕ → A) → Next Hit from n r → ((k : ℕ) → k < n → (Hit k → ⊥) → F k ≡ F (k + 1)) → F from ≡ F r
+pub skip : {A : Type 0} {Hit : ℕ → Type 0} {from n r : ℕ} (F : ℕ → A) → Next Hit from n r
+    → ((k : ℕ) → k < n → (Hit k → ⊥) → F k ≡ F (k + 1)) → F from ≡ F r
 skip {Hit = Hit} {from = from} {n = n} {r = r} F pass h =
     let e : from + (r - from) ≡ r = omega (arith, pass .start) in
     skip-by F (r - from) from (λ k l b. h k (omega (arith, pass .end)) (pass .misses k l (omega (arith, pass .start)))) ∙ ap F e

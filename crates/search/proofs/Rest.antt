@@ -42,7 +42,11 @@ module _ (tag cell s n : ℕ) (d : List ℕ) (cs : List Row) where
     pub read-skip : i < n → (cellOf (rowAt 24 i d) ≡ cell → ⊥) → readRest best i ≡ readRest best (i + 1)
     unfolding readRest
     read-skip h e =
-        rw (find-miss (isOwn tag cell) 24 n i d h (own-other-cell tag cell (rowAt 24 i d) e), newest-miss (versionOf cell s cs) 24 n i d h (version-no cell s cs (rowAt 24 i d) e))
+        rw (
+          find-miss (isOwn tag cell) 24 n i d h (own-other-cell tag cell (rowAt 24 i d) e),
+          newest-miss (versionOf cell s cs) 24 n i d h
+              (version-no cell s cs (rowAt 24 i d) e),
+        )
 
     pub read-own : i < n → cellOf (rowAt 24 i d) ≡ cell → tagOf (rowAt 24 i d) ≡ tag → readRest best i ≡ Version i 0
     unfolding readRest ownOr
@@ -52,7 +56,13 @@ module _ (tag cell s n : ℕ) (d : List ℕ) (cs : List Row) where
         → b ≡ newer best (versionAt i (upTo s (commitOf (tagOf (rowAt 24 i d)) cs))) → readRest best i ≡ readRest b (i + 1)
     unfolding readRest
     read-other b h e f g =
-        rw (find-miss (isOwn tag cell) 24 n i d h (own-other-tag tag cell (rowAt 24 i d) f), newest-step (versionOf cell s cs) 24 n i d h, version-yes cell s cs (rowAt 24 i d) e, ← newer-assoc best, ← g)
+        rw (
+          find-miss (isOwn tag cell) 24 n i d h (own-other-tag tag cell (rowAt 24 i d) f),
+          newest-step (versionOf cell s cs) 24 n i d h,
+          version-yes cell s cs (rowAt 24 i d) e,
+          ← newer-assoc best,
+          ← g,
+        )
 
     pub read-end : n ≤ i → readRest best i ≡ best
     unfolding readRest ownOr
@@ -72,7 +82,11 @@ module _ (tag cell n : ℕ) (d : List ℕ) where
     pub own-skip : i < n → (tagOf (rowAt 24 i d) ≡ tag → ⊥) → ownRest m i ≡ ownRest m (i + 1)
     unfolding ownRest
     own-skip h e =
-        rw (find-miss (isOwn tag cell) 24 n i d h (own-other-tag tag cell (rowAt 24 i d) e), count-miss (hasTag tag) 24 n i d h (tag-no tag (rowAt 24 i d) e))
+        rw (
+          find-miss (isOwn tag cell) 24 n i d h (own-other-tag tag cell (rowAt 24 i d) e),
+          count-miss (hasTag tag) 24 n i d h
+              (tag-no tag (rowAt 24 i d) e),
+        )
 
     pub own-found : i < n → tagOf (rowAt 24 i d) ≡ tag → cellOf (rowAt 24 i d) ≡ cell → ownRest m i ≡ OwnRow i
     unfolding ownRest
@@ -81,7 +95,12 @@ module _ (tag cell n : ℕ) (d : List ℕ) where
     pub own-other : i < n → tagOf (rowAt 24 i d) ≡ tag → (cellOf (rowAt 24 i d) ≡ cell → ⊥) → ownRest m i ≡ ownRest (m + 1) (i + 1)
     unfolding ownRest
     own-other h e f =
-        rw (find-miss (isOwn tag cell) 24 n i d h (own-other-cell tag cell (rowAt 24 i d) f), count-hit (hasTag tag) 24 n i d h (tag-yes tag (rowAt 24 i d) e), add-assoc)
+        rw (
+          find-miss (isOwn tag cell) 24 n i d h (own-other-cell tag cell (rowAt 24 i d) f),
+          count-hit (hasTag tag) 24 n i d h
+              (tag-yes tag (rowAt 24 i d) e),
+          add-assoc,
+        )
 
     pub own-end : n ≤ i → ownRest m i ≡ OwnRows m
     unfolding ownRest

@@ -54,7 +54,8 @@ module _ (found : ℕ) (p : ℕ → Bool) where
       go false true e f = rw (member-insert clients out i j h, e, still (eqb-false j i e) (ltb j i) refl) (all j)
       go false false e f = rw (still (eqb-false j i e) (ltb j i) refl) (all j)
 
-pub put-end : (found queued i j : ℕ) (t : Bool) → queued < 2 ^ clients → clients ≤ i → (member found j || (ltb j i && (member queued j && t))) ≡ (member found j || (member queued j && t))
+pub put-end : (found queued i j : ℕ) (t : Bool) → queued < 2 ^ clients → clients ≤ i
+    → (member found j || (ltb j i && (member queued j && t))) ≡ (member found j || (member queued j && t))
 put-end found queued i j t h l = rw (within queued i j t h l)
 
 -- ---- row by row: the members are the queued clients whose transactions share a cell with the transaction in the rows before i
@@ -91,7 +92,8 @@ module _ (tag queued n : ℕ) (d numbers : List ℕ) where
     share-hit h e out new j =
         all j
         ∙ rw (rows-step 24 n i d h, e, new j, eqb-turn (getD numbers j 0) (tagOf (rowAt 24 i d)))
-        (regroup (member found j) (member queued j) (eqb (tagOf (rowAt 24 i d)) (getD numbers j 0)) (any (meets (rowsIn 24 n d) tag (getD numbers j 0)) (rowsFrom 24 n (i + 1) d)))
+        (regroup (member found j) (member queued j) (eqb (tagOf (rowAt 24 i d)) (getD numbers j 0))
+        (any (meets (rowsIn 24 n d) tag (getD numbers j 0)) (rowsFrom 24 n (i + 1) d)))
 
     pub share-end : n ≤ i → queued < 2 ^ clients → found < 2 ^ clients
         → found ≡ collect (λ j. member queued j && shares (rowsIn 24 n d) tag (getD numbers j 0)) clients

@@ -157,7 +157,8 @@ pub after-cons : (w : Memory) (l : List ℕ) (ls : List (List ℕ)) → memoryAf
 unfolding memoryAfter
 after-cons w l ls = refl
 
-module _ (s : List ℕ) (from e : ℕ) (h : e ≡ newlineFrom from (drop from s)) (m : from ≤ e) (l : e < length s) (w w′ : Memory) (out out′ : List ℕ) (at used : ℕ) (p : Spoken (answerTo (take (e - from) (drop from s)) w) w′ out at out′ used) where
+module _ (s : List ℕ) (from e : ℕ) (h : e ≡ newlineFrom from (drop from s)) (m : from ≤ e) (l : e < length s) (w w′ : Memory)
+    (out out′ : List ℕ) (at used : ℕ) (p : Spoken (answerTo (take (e - from) (drop from s)) w) w′ out at out′ used) where
   pub text-more : (whole : List ℕ) → take at out ++ answers w (linesOf (drop from s)) ≡ whole
       → take used out′ ++ answers w′ (linesOf (drop (e + 1) s)) ≡ whole
   text-more whole a = rw (p .text .text, append-assoc, p .memory) (rw (lines-at s from e h m l, answers-cons) at a)

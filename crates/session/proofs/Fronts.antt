@@ -63,7 +63,9 @@ module _ (store : Store) (b b₂ : List ℕ) (out out′ : List ℕ) (at used : 
   left d c x y first limit n s e = go (accepts (length d) (length c) first limit) e
     where
       go : (t : Bool)
-          → afterOf {A = ℕ} s x y (Refused n) ≡ (if t then afterOf (storeOf (empty (length d / 24) (limitOf limit) (first - 1))) (replicate (length d) 0) (replicate (length c) 0) (Answered (length d / 24)) else afterOf (storeOf (empty 0 0 0)) d c (Refused badSetUp))
+          → afterOf {A = ℕ} s x y (Refused n) ≡ (if t then afterOf (storeOf (empty (length d / 24) (limitOf limit) (first - 1)))
+          (replicate (length d) 0) (replicate (length c) 0) (Answered (length d / 24)) else afterOf (storeOf (empty 0 0 0)) d c
+          (Refused badSetUp))
           → (x ≡ d) × (y ≡ c)
       go true q =
           let f : Refused n ≡ Answered (length d / 24) = ap (λ (o : After ℕ). o .answer) q in
@@ -93,7 +95,8 @@ module _ (store : Store) (b b₂ : List ℕ) (out out′ : List ℕ) (at used : 
   unfolding setUpResponse
   set-up-spoken form r first limit d c s x y d′ c′ a h fd fc e p q u l =
       rw (le-ltb 1024 r h)
-      (set-up form r first limit d c s x y d′ c′ a fd fc e p q u l (setUp (take (24 * r) b) (take (8 * r) b₂) first limit) (e ∙ rw (front-take (24 * r) d b fd, front-take (8 * r) c b₂ fc)))
+      (set-up form r first limit d c s x y d′ c′ a fd fc e p q u l (setUp (take (24 * r) b) (take (8 * r) b₂) first limit)
+      (e ∙ rw (front-take (24 * r) d b fd, front-take (8 * r) c b₂ fc)))
 
 -- a line is answered by its form
 pub by-form : (l : List ℕ) (w : Memory) (f g : Form) → f ≡ formOf l → f ≡ g → answerTo l w ≡ response g l w

@@ -138,7 +138,8 @@ module _ (w : Memory) where
   heads-alike : (k r l : List ℕ) (ls : List (List ℕ)) → 80 < length k → 80 < length r
       → (answers w ((k ++ l) ∷ ls) ≡ answers w ((r ++ l) ∷ ls)) × (memoryAfter w ((k ++ l) ∷ ls) ≡ memoryAfter w ((r ++ l) ∷ ls))
   heads-alike k r l ls g h =
-      let e : answerTo (k ++ l) w ≡ answerTo (r ++ l) w = long-alike (k ++ l) (r ++ l) w (rw length-append (omega arith)) (rw length-append (omega arith)) in
+      let e : answerTo (k ++ l) w ≡ answerTo (r ++ l) w = long-alike (k ++ l) (r ++ l) w (rw length-append (omega arith))
+      (rw length-append (omega arith)) in
       (rw (answers-cons w (k ++ l) ls, answers-cons w (r ++ l) ls, e), rw (after-cons w (k ++ l) ls, after-cons w (r ++ l) ls, e))
 
 -- the answers to lines behind lines
@@ -168,7 +169,12 @@ module _ (w : Memory) (k r c : List ℕ) (h : Kept k r) where
   long-rest (l ∷ ls) q g m = inl refl
 
   rest-kept : Kept (restOf (k ++ c)) (restOf (r ++ c))
-  rest-kept = record { begun = lines-rest (r ++ c); kept = lines-rest (k ++ c); same = ⊎-elim (λ e. inl (rw e)) (λ g. rw (rest-begun k c (h .kept), rest-begun r c (h .begun)) (long-rest (linesOf c) (restOf c) (g .0) (g .1))) (h .same) }
+  rest-kept = record {
+    begun = lines-rest (r ++ c);
+    kept = lines-rest (k ++ c);
+    same = ⊎-elim (λ e. inl (rw e))
+        (λ g. rw (rest-begun k c (h .kept), rest-begun r c (h .begun)) (long-rest (linesOf c) (restOf c) (g .0) (g .1))) (h .same);
+  }
 
 -- a line cut to 81 bytes is kept where the line was
 short-or-long : (n : ℕ) → (n ≤ 81) ⊎ (81 < n)
@@ -180,7 +186,12 @@ cut k r h =
     (λ s. rw (take-all 81 k s) h)
     (λ g.
     let n : length (take 81 k) ≡ 81 = length-take-le 81 k (omega arith) in
-    record { begun = h .begun; kept = lines-take 81 k (h .kept); same = inr (omega arith, ⊎-elim (λ e. subst (λ m. 80 < length m) e (omega arith)) (λ p. p .1) (h .same)) })
+    record {
+      begun = h .begun;
+      kept = lines-take 81 k (h .kept);
+      same = inr
+          (omega arith, ⊎-elim (λ e. subst (λ m. 80 < length m) e (omega arith)) (λ p. p .1) (h .same));
+    })
     (short-or-long (length k))
 
 -- ---- the whole input
@@ -211,7 +222,15 @@ chunked w (c ∷ cs) k r h =
     let a = alike w k r c h in
     let v : Memory = memoryAfter w (linesOf (r ++ c)) in
     let i = chunked v cs (take 81 (restOf (k ++ c))) (restOf (r ++ c)) (cut (restOf (k ++ c)) (restOf (r ++ c)) (rest-kept w k r c h)) in
-    rw (a .0, a .1, i, ← append-assoc r c (joined cs), lines-append (r ++ c) (joined cs), answers-append w (linesOf (r ++ c)) (lines (restOf (r ++ c) ++ joined cs)))
+    rw (
+      a .0,
+      a .1,
+      i,
+      ← append-assoc r c (joined cs),
+      lines-append (r ++ c) (joined cs),
+      answers-append w (linesOf (r ++ c))
+          (lines (restOf (r ++ c) ++ joined cs)),
+    )
 
 -- "forms from standard input, one a line (the last needs no newline)": the same answers however the input comes in
 pub in-chunks : (cs : List (List ℕ)) → inChunks initial [] cs ≡ output (joined cs)

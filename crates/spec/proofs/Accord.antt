@@ -82,7 +82,8 @@ unfolding added
 limit-first k x v i h = rw (le-leb _ _ h)
 
 -- "Abandon: [..] 7 at stages 12 and 13"
-pub abandoned-late : (k : ℕ) (i : Image) → k < clients → isOpen i k ≡ true → (stageOf i k ≡ 12) ⊎ (stageOf i k ≡ 13) → abandon k i ≡ refuse wrongStage i
+pub abandoned-late : (k : ℕ) (i : Image) → k < clients → isOpen i k ≡ true → (stageOf i k ≡ 12) ⊎ (stageOf i k ≡ 13)
+    → abandon k i ≡ refuse wrongStage i
 unfolding abandon
 abandoned-late k i h o (inl e) = rw (lt-leb clients k h, o, e)
 abandoned-late k i h o (inr e) = rw (lt-leb clients k h, o, e)
@@ -191,7 +192,8 @@ two a b = set (set zeros 40 a) 63 b
 
 abbrev farApart : List ℕ → List ℕ → List ℕ → Image
 farApart stages requestWaits commitWaits =
-    imageOf 4 8 (countersOf 2 2 2 0) (clientsOf stages (two 1 2) zeros (two 1 2) (two 1 2) requestWaits commitWaits) (dataRow 1 7 value ∷ dataRow 2 7 value ∷ []) []
+    imageOf 4 8 (countersOf 2 2 2 0) (clientsOf stages (two 1 2) zeros (two 1 2) (two 1 2) requestWaits commitWaits)
+    (dataRow 1 7 value ∷ dataRow 2 7 value ∷ []) []
 
 pub lists-63 : listRequests 40 (farApart (two 3 3) zeros zeros) ≡ replies (farApart (two 4 3) (two 9223372036854775808 0) zeros) (Stage 4)
 unfolding listRequests goOn queued others collect insert member bit shares any wrote isOwn hasTag tagOf cellOf number dataRow bytesOf
@@ -244,13 +246,15 @@ abandon-leaves = refl
 -- queue, and no number is taken", even with R and C used up: the last commit is 2, client 1's transaction 4 is under way, and client 0's
 -- transaction 5, with S 1, wrote nothing
 abbrev storeWith : Clients → Image
-storeWith c = imageOf 4 16 (countersOf 5 top top 2) c (dataRow 1 7 value ∷ dataRow 2 7 value ∷ dataRow 4 7 value ∷ []) (commitRow 1 1 ∷ commitRow 2 2 ∷ [])
+storeWith c = imageOf 4 16 (countersOf 5 top top 2) c (dataRow 1 7 value ∷ dataRow 2 7 value ∷ dataRow 4 7 value ∷ [])
+    (commitRow 1 1 ∷ commitRow 2 2 ∷ [])
 
 abbrev underway : Clients
 underway = clientsOf (set zeros 1 8) (set zeros 1 4) (set zeros 1 2) (set zeros 1 3) (set zeros 1 3) zeros zeros
 
 abbrev andEnquiry : Clients
-andEnquiry = clientsOf (underway .stage) (set (underway .number) 0 5) (set (underway .snapshot) 0 1) (underway .request) (underway .commit) zeros zeros
+andEnquiry = clientsOf (underway .stage) (set (underway .number) 0 5) (set (underway .snapshot) 0 1) (underway .request) (underway .commit)
+    zeros zeros
 
 pub done-unchanged : advance 0 (storeWith andEnquiry) ≡ replies (storeWith underway) (Done 1)
 unfolding advance enter finished goOn closed cleared bit member remove any hasTag tagOf number dataRow bytesOf
@@ -266,8 +270,11 @@ low-of-63 = refl
 -- "A committed data row goes if its cell has another with a larger commit number that is at most low": cell 7 was committed under 1, 2 and 3
 abbrev thrice : Image
 thrice =
-    imageOf 4 16 (countersOf 3 3 3 3) closedAll (dataRow 1 7 value ∷ dataRow 2 7 value ∷ dataRow 3 7 value ∷ []) (commitRow 1 1 ∷ commitRow 2 2 ∷ commitRow 3 3 ∷ [])
+    imageOf 4 16 (countersOf 3 3 3 3) closedAll (dataRow 1 7 value ∷ dataRow 2 7 value ∷ dataRow 3 7 value ∷ [])
+    (commitRow 1 1 ∷ commitRow 2 2 ∷ commitRow 3 3 ∷ [])
 
 pub one-row-left : trim thrice ≡ replies (withRows thrice (dataRow 3 7 value ∷ []) (commitRow 3 3 ∷ [])) 2
-unfolding trim trimmedTo low readers smallest lesser trimmedRows stays overtaken later between inUse trimmedCommits any commitOf filter hasTag tagOf cellOf commitTag commitNumber number dataRow commitRow bytesOf
+unfolding
+    trim trimmedTo low readers smallest lesser trimmedRows stays overtaken later between inUse trimmedCommits any commitOf filter hasTag
+    tagOf cellOf commitTag commitNumber number dataRow commitRow bytesOf
 one-row-left = refl

@@ -83,7 +83,8 @@ pub answers-by-value : (n : ℕ) (b : Begun) (g : Reading) (p : Progress)
 answers-by-value n b g p = (refl, refl, refl, refl)
 
 pub refusals-by-number : (r : Refusal)
-    → (figureOf (figure.Refused r) ≡ Refused (code r)) × (beginOf (begun.Refused r) ≡ Refused (code r)) × (readOf (reading.Refused r) ≡ Refused (code r))
+    → (figureOf (figure.Refused r) ≡ Refused (code r)) × (beginOf (begun.Refused r) ≡ Refused (code r)) ×
+    (readOf (reading.Refused r) ≡ Refused (code r))
     × (advanceOf (advanced.Refused r) ≡ Refused (code r))
 refusals-by-number r = (refl, refl, refl, refl)
 

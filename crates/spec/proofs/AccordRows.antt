@@ -72,7 +72,8 @@ rowsInBytes =
       name = "a row of large numbers";
       call = Write 0 513 (sixteen 64);
       before =
-          finds (holds 3 8 1 0 (counts 67305985 0 0 0) (boxes none (three 67305985 0 0) none none none none none)) (row 1 7 16 ++ rubbish 48) (rubbish 24);
+          finds (holds 3 8 1 0 (counts 67305985 0 0 0) (boxes none (three 67305985 0 0) none none none none none))
+          (row 1 7 16 ++ rubbish 48) (rubbish 24);
       after =
           leaves
           (finds (holds 3 8 2 0 (counts 67305985 0 0 0) (boxes none (three 67305985 0 0) none none none none none))
@@ -131,7 +132,8 @@ rowsInBytes =
       call = Advance 0;
       before =
           finds
-          (holds 3 8 1 1 (counts 134678021 9 67305985 1) (boxes (three 11 0 0) (three 134678021 0 0) none (three 9 0 0) (three 67305985 0 0) none none))
+          (holds 3 8 1 1 (counts 134678021 9 67305985 1) (boxes (three 11 0 0) (three 134678021 0 0) none (three 9 0 0) (three 67305985 0 0)
+          none none))
           (row 1 7 16 ++ rubbish 48) (entry 1 1 ++ rubbish 16);
       after =
           leaves

@@ -91,7 +91,8 @@ fourteen =
       before = at now (those (three 11 9 4) (three 3 4 5) (three 4 0 0) (three 0 1 0) (three 0 1 0));
       after =
           leaves
-          (finds (holds 4 8 3 1 (counts 3 5 4 4) (those (three 12 9 4) (three 3 4 5) (three 4 0 0) (three 0 1 0) (three 0 1 0))) data3 (entry 4 1 ++ rubbish 24))
+          (finds (holds 4 8 3 1 (counts 3 5 4 4) (those (three 12 9 4) (three 3 4 5) (three 4 0 0) (three 0 1 0) (three 0 1 0))) data3
+          (entry 4 1 ++ rubbish 24))
           (Stage 12);
     }
     -- 12: "leave the commit queue": the lists of the commit queue lose client 0, those of the request queue keep it
@@ -132,7 +133,8 @@ thrice l b = finds (holds 4 8 4 3 (counts 9 3 3 l) b) (row 1 7 16 ++ row 2 7 32 
 -- the first row goes, or the first two; and the committed rows that have no data row left
 abbrev oneLess : Boxes → Memory
 oneLess b =
-    finds (holds 4 8 3 2 (counts 9 3 3 2) b) (row 2 7 32 ++ row 3 7 48 ++ row 9 7 64 ++ replicate 24 0) (entry 2 2 ++ entry 3 3 ++ replicate 8 0 ++ rubbish 8)
+    finds (holds 4 8 3 2 (counts 9 3 3 2) b) (row 2 7 32 ++ row 3 7 48 ++ row 9 7 64 ++ replicate 24 0)
+    (entry 2 2 ++ entry 3 3 ++ replicate 8 0 ++ rubbish 8)
 
 abbrev twoLess : Boxes → Memory
 twoLess b = finds (holds 4 8 2 1 (counts 9 3 3 3) b) (row 3 7 48 ++ row 9 7 64 ++ replicate 48 0) (entry 3 3 ++ replicate 16 0 ++ rubbish 8)
@@ -188,10 +190,12 @@ closings =
       name = "no conflict";
       call = Advance 0;
       before =
-          finds (holds 6 8 6 3 (counts 9 3 3 3) (boxes (three 5 0 0) (three 9 0 0) (three 3 0 0) none none none none)) checking (commits ++ rubbish 24);
+          finds (holds 6 8 6 3 (counts 9 3 3 3) (boxes (three 5 0 0) (three 9 0 0) (three 3 0 0) none none none none)) checking
+          (commits ++ rubbish 24);
       after =
           leaves
-          (finds (holds 6 8 6 3 (counts 9 3 3 3) (boxes (three 6 0 0) (three 9 0 0) (three 3 0 0) none none none none)) checking (commits ++ rubbish 24))
+          (finds (holds 6 8 6 3 (counts 9 3 3 3) (boxes (three 6 0 0) (three 9 0 0) (three 3 0 0) none none none none)) checking
+          (commits ++ rubbish 24))
           (Stage 6);
     }
     -- "low is the smallest S of open transactions": 2 of 2 and 3, whatever the last commit number

@@ -89,7 +89,8 @@ unfolding spliced
 take-before at v s h = rw append-assoc (take-at (take at s) (v ++ drop (at + length v) s) at (length-take-le at s h))
 
 -- a part that was lent, `&mut xs[a..a + k]`, and spliced, is spliced in the whole
-pub lent-spliced : (xs v : List ℕ) (a k j : ℕ) → a + k ≤ length xs → j + length v ≤ k → putMid a k xs (spliced j v (part a k xs)) ≡ spliced (a + j) v xs
+pub lent-spliced : (xs v : List ℕ) (a k j : ℕ) → a + k ≤ length xs → j + length v ≤ k
+    → putMid a k xs (spliced j v (part a k xs)) ≡ spliced (a + j) v xs
 unfolding spliced
 lent-spliced xs v a k j h g =
     let rest : List ℕ = drop a xs in
@@ -109,7 +110,13 @@ unfolding bytesOf dataRow
 row-written tag cell value s h l =
     let third : cell / 256 / 256 % 256 ≡ 0 = omega arith in
     let fourth : cell / 256 / 256 / 256 % 256 ≡ 0 = omega arith in
-    rw (spliced-next s (bytesOf 4 tag) (bytesOf 4 cell) 0 4 refl (omega arith), spliced-next s (bytesOf 4 tag ++ bytesOf 4 cell) value 0 8 refl l, third, fourth)
+    rw (
+      spliced-next s (bytesOf 4 tag) (bytesOf 4 cell) 0 4 refl (omega arith),
+      spliced-next s (bytesOf 4 tag ++ bytesOf 4 cell) value 0 8
+          refl l,
+      third,
+      fourth,
+    )
 
 pub length-dataRow : (tag cell : ℕ) (value : List ℕ) → length (dataRow tag cell value) ≡ 8 + length value
 unfolding bytesOf dataRow

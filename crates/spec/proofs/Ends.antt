@@ -76,7 +76,8 @@ accepted d c w l e =
 module _ {A : Type 0} (s : Store) (d c : List ℕ) where
   -- an outcome laid out, by its record and its buffers
   pub ends : (o : Outcome A) (s′ : Store) (d′ c′ : List ℕ) (a : Answer A)
-      → s′ ≡ storeOf (o .image) → d′ ≡ layout 24 (s .used) (o .image .dataRows) d → c′ ≡ layout 8 (s .entries) (o .image .commitRows) c → a ≡ o .answer
+      → s′ ≡ storeOf (o .image) → d′ ≡ layout 24 (s .used) (o .image .dataRows) d → c′ ≡ layout 8 (s .entries) (o .image .commitRows) c
+      → a ≡ o .answer
       → afterOf s′ d′ c′ a ≡ encode s d c o
   unfolding encode
   ends o s′ d′ c′ a e f g h = rw (e, f, g, h)
@@ -112,6 +113,7 @@ module _ {A : Type 0} (s : Store) (d c : List ℕ) where
     settles n k a e h = rw (e, h) (ends-same n k a)
 
     -- a refusal
-    pub refuses : (a : Answer A) → fits s (length d) (length c) ≡ true → f (decode s d c) ≡ record { image = decode s d c; answer = a } → afterOf s d c a ≡ onBytes f s d c
+    pub refuses : (a : Answer A) → fits s (length d) (length c) ≡ true → f (decode s d c) ≡ record { image = decode s d c; answer = a }
+        → afterOf s d c a ≡ onBytes f s d c
     unfolding decode
     refuses a e h = settles (countersIn s) (clientsIn s) a e h

@@ -18,5 +18,13 @@ use Rattle.spec.specs.Session.{initial, setUpResponse, response, answerT
 use Rattle.spec.specs.Cases.{Case, inputOf, outputOf, cases}
 
 pub house : map (λ (c : Case). output (inputOf c)) cases ≡ map outputOf cases
-unfolding flatten valueRead bit member insert remove size collect strike spliced number bytesOf dataRow tagOf cellOf valueOf withValue commitRow commitNumber commitTag rowAt rowsIn rowsFrom layout filter hasTag lesser smallest above upTo commitOf isOwn find versionOf newer versionAt newest ownOr lookFor any count wrote cellsOf shares clash conflict between later overtaken stays trimmedRows inUse trimmedCommits cleared closed empty free begun begin read replaced added write removed abandon readers low trimmedTo trim queued struck others goOn enter takeRequest listRequests looked lookRequests check takeCommit listCommits lookCommits addCommit leaveCommits leaveRequests finished advance decode storeOf encode known fits onBytes accepts setUp digitVal digitsFrom decimalFrom decimalAt decimalOn decimalOf hexVal valueIn hexDigit oneAt spacedAt twoAt setUpOf writeOf formIn formOf numbered headText lineText initial setUpResponse response answerTo answers lines output
+unfolding
+    flatten valueRead bit member insert remove size collect strike spliced number bytesOf dataRow tagOf cellOf valueOf withValue commitRow
+    commitNumber commitTag rowAt rowsIn rowsFrom layout filter hasTag lesser smallest above upTo commitOf isOwn find versionOf newer
+    versionAt newest ownOr lookFor any count wrote cellsOf shares clash conflict between later overtaken stays trimmedRows inUse
+    trimmedCommits cleared closed empty free begun begin read replaced added write removed abandon readers low trimmedTo trim queued struck
+    others goOn enter takeRequest listRequests looked lookRequests check takeCommit listCommits lookCommits addCommit leaveCommits
+    leaveRequests finished advance decode storeOf encode known fits onBytes accepts setUp digitVal digitsFrom decimalFrom decimalAt
+    decimalOn decimalOf hexVal valueIn hexDigit oneAt spacedAt twoAt setUpOf writeOf formIn formOf numbered headText lineText initial
+    setUpResponse response answerTo answers lines output
 house = refl

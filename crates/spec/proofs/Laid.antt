@@ -24,7 +24,8 @@ pub laid-same : (w n : ℕ) (b : List ℕ) → layout w n (rowsIn w n b) b ≡ b
 laid-same w n b = laid-kept w n b b refl
 
 -- rows were removed
-pub laid-fewer : (w n : ℕ) (rs : List Row) (s : List ℕ) → length rs ≤ n → layout w n rs s ≡ flatten rs ++ replicate (w * n - w * length rs) 0 ++ drop (w * n) s
+pub laid-fewer : (w n : ℕ) (rs : List Row) (s : List ℕ) → length rs ≤ n
+    → layout w n rs s ≡ flatten rs ++ replicate (w * n - w * length rs) 0 ++ drop (w * n) s
 unfolding layout
 laid-fewer w n rs s h =
     let e : length rs + (n - length rs) ≡ n = omega arith in
@@ -46,7 +47,8 @@ laid-set w n i at v b h g l =
     let in-row : w * i + w ≤ length b = row-inside w i n (length b) h l in
     let before : w * i + w ≤ w * n = row-inside w i n (w * n) h (omega arith) in
     let rest : drop (w * n) (spliced (w * i + at) v b) ≡ drop (w * n) b =
-    drop-later (w * i + at + length v) (w * n) (spliced (w * i + at) v b) b (omega arith) (drop-spliced (w * i + at) v b (w * i + at + length v) refl (omega arith)) in
+    drop-later (w * i + at + length v) (w * n) (spliced (w * i + at) v b) b (omega arith)
+    (drop-spliced (w * i + at) v b (w * i + at + length v) refl (omega arith)) in
     rw (rows-at w n i b h, ← rows-replaced w n i at v b h g l) (laid-kept w n b (spliced (w * i + at) v b) rest)
 
 -- ---- what is read back

@@ -166,7 +166,8 @@ pub rows-at : (w n k : ℕ) (s : List ℕ) → k < n → getD (rowsIn w n s) k [
 unfolding rowsIn rowAt
 rows-at w zero k s h = absurd (not-suc-le-zero h)
 rows-at w (suc n) zero s h = rw mul-zero
-rows-at w (suc n) (suc k) s h = rows-at w n k (drop w s) (omega arith) ∙ rw (drop-drop, mul-suc w k) (ap (λ (m : ℕ). take w (drop m s)) (add-comm w (w * k)))
+rows-at w (suc n) (suc k) s h = rows-at w n k (drop w s) (omega arith) ∙ rw (drop-drop, mul-suc w k)
+    (ap (λ (m : ℕ). take w (drop m s)) (add-comm w (w * k)))
 
 -- a row that lies before or behind what was put in
 row-before : (w k at : ℕ) (v s : List ℕ) → w * k + w ≤ at → at ≤ length s → rowAt w k (spliced at v s) ≡ rowAt w k s
@@ -176,7 +177,8 @@ row-before w k at v s h l =
 
 row-behind : (w k at : ℕ) (v s : List ℕ) → at + length v ≤ w * k → w * k ≤ length s → rowAt w k (spliced at v s) ≡ rowAt w k s
 unfolding rowAt
-row-behind w k at v s h l = ap (take w) (drop-later (at + length v) (w * k) (spliced at v s) s h (drop-spliced at v s (at + length v) refl (omega arith)))
+row-behind w k at v s h l = ap (take w) (drop-later (at + length v) (w * k) (spliced at v s) s h
+    (drop-spliced at v s (at + length v) refl (omega arith)))
 
 row-inner : (w i at : ℕ) (v s : List ℕ) → at + length v ≤ w → w * i + w ≤ length s → rowAt w i (spliced (w * i + at) v s) ≡ spliced at v (rowAt w i s)
 unfolding rowAt
@@ -206,10 +208,12 @@ rows-replaced w n i at v s h g l =
     at-row : (k : ℕ) → k < n → Dec (k < i) → Dec (i < k)
         → getD (rowsIn w n (spliced (w * i + at) v s)) k [] ≡ getD (set (rowsIn w n s) i (spliced at v (rowAt w i s))) k []
     at-row k q (yes b) d =
-        other k q (λ e. omega arith) (row-before w k (w * i + at) v s (omega (arith, row-inside w k i (w * i) b (omega arith))) (omega (arith, inside)))
+        other k q (λ e. omega arith) (row-before w k (w * i + at) v s (omega (arith, row-inside w k i (w * i) b (omega arith)))
+        (omega (arith, inside)))
     at-row k q (no nb) (yes b) =
         other k q (λ e. omega arith)
         (row-behind w k (w * i + at) v s (omega (arith, row-inside w i k (w * k) b (omega arith))) (omega (arith, row-inside w k n (length s) q l)))
     at-row k q (no nb) (no nd) =
         let e : k ≡ i = omega (arith, nb, nd) in
-        rw e (rows-at w n i (spliced (w * i + at) v s) h ∙ row-inner w i at v s g inside ∙ sym (getD-set-same (rowsIn w n s) i (spliced at v (rowAt w i s)) [] (omega (arith, length-rows w n s))))
+        rw e (rows-at w n i (spliced (w * i + at) v s) h ∙ row-inner w i at v s g inside ∙ sym
+        (getD-set-same (rowsIn w n s) i (spliced at v (rowAt w i s)) [] (omega (arith, length-rows w n s))))

@@ -60,7 +60,8 @@ sub-bit s zero e zero = omega (arith, bit-zero s, bit-zero (s - 1))
 sub-bit s zero e (suc j) =
     let h : (s - 1) / 2 ≡ s / 2 = omega (arith, bit-zero s) in
     rw (bit-suc (s - 1) j, bit-suc s j, h, ne-eqb (suc j) 0 (λ e. omega arith))
-sub-bit s (suc k) e zero = rw (ne-eqb 0 (suc k) (λ e. omega arith)) (omega (arith, bit-zero s, bit-zero (s - 2 ^ suc k), pow-suc 2 k, bit-le s (suc k) e))
+sub-bit s (suc k) e zero = rw (ne-eqb 0 (suc k) (λ e. omega arith))
+    (omega (arith, bit-zero s, bit-zero (s - 2 ^ suc k), pow-suc 2 k, bit-le s (suc k) e))
 sub-bit s (suc k) e (suc j) =
     let h : (s - 2 ^ suc k) / 2 ≡ s / 2 - 2 ^ k = omega (arith, pow-suc 2 k, bit-le s (suc k) e) in
     rw (bit-suc (s - 2 ^ suc k) j, bit-suc s j, h, eqb·suc-suc j k) (sub-bit (s / 2) k (sym (bit-suc s k) ∙ e) j)
@@ -219,7 +220,12 @@ member-collect p (suc m) j h = rw (ltb-suc j m) (go (eqb j m) (p m) refl refl (m
 pub collect-others : (p : ℕ → Bool) (k : ℕ) → remove (collect p clients) k ≡ collect (λ j. not (eqb j k) && p j) clients
 collect-others p k =
     same-members clients _ _ (omega (arith, remove-le (collect p clients) k, collect-lt p clients)) (collect-lt _ clients)
-    (λ j. rw (member-remove (collect p clients) k j, member-collect p clients j (omega arith), member-collect (λ j. not (eqb j k) && p j) clients j (omega arith))
+    (λ j. rw (
+      member-remove (collect p clients) k j,
+      member-collect p clients j (omega arith),
+      member-collect (λ j. not (eqb j k) && p j)
+          clients j (omega arith),
+    )
     (go (eqb j k) (ltb j clients) (p j)))
   where
     go : (t u v : Bool) → (if t then false else (u && v)) ≡ (u && (not t && v))

@@ -2,7 +2,19 @@
 -- Assumes nothing.
 use Prim.Native.Nat.{ℕ}
 use Rattle.spec.specs.declared.Refusal.{Refusal}
-use Rattle.spec.specs.declared.Refusal.the-variants.{BadSetUp, Unfit, NoClient, NoCell, AlreadyOpen, NotOpen, WrongStage, NumbersUsedUp, CellLimit, NoFreeRow, WrongLength}
+use Rattle.spec.specs.declared.Refusal.the-variants.{
+  BadSetUp,
+  Unfit,
+  NoClient,
+  NoCell,
+  AlreadyOpen,
+  NotOpen,
+  WrongStage,
+  NumbersUsedUp,
+  CellLimit,
+  NoFreeRow,
+  WrongLength,
+}
 use Rattle.spec.specs.declared.Begun.{Begun}
 use Rattle.spec.specs.declared.Reading.{Reading}
 use Rattle.spec.specs.declared.Progress.{Progress}

@@ -23,7 +23,20 @@ use Rattle.spec.specs.Trim.{trimmedRows, trimmedCommits}
 use Rattle.spec.specs.declared.Begun.{Begun}
 use Rattle.spec.specs.declared.Reading.{Reading}
 use Rattle.spec.specs.declared.Reading.the-variants.{Value, Unwritten}
-use Rattle.spec.specs.Answers.{Answer, Answered, Refused, noClient, noCell, alreadyOpen, notOpen, wrongStage, numbersUsedUp, cellLimit, noFreeRow, wrongLength}
+use Rattle.spec.specs.Answers.{
+  Answer,
+  Answered,
+  Refused,
+  noClient,
+  noCell,
+  alreadyOpen,
+  notOpen,
+  wrongStage,
+  numbersUsedUp,
+  cellLimit,
+  noFreeRow,
+  wrongLength,
+}
 use Rattle.spec.specs.Image.{Image, withClients, withRows, withIssued, opened, closed, stageOf, numberOf, snapshotOf, isOpen}
 
 -- what a call makes of an image

@@ -13,7 +13,20 @@ use Rattle.spec.specs.Rows.{dataRowsIn, cells}
 use Rattle.spec.specs.declared.Begun.{Begun}
 use Rattle.spec.specs.declared.Progress.{Progress}
 use Rattle.spec.specs.declared.Progress.the-variants.{Stage, Waiting, Conflict, Done}
-use Rattle.spec.specs.Answers.{Answer, Answered, Refused, unfit, noClient, noCell, alreadyOpen, wrongStage, numbersUsedUp, cellLimit, noFreeRow, wrongLength}
+use Rattle.spec.specs.Answers.{
+  Answer,
+  Answered,
+  Refused,
+  unfit,
+  noClient,
+  noCell,
+  alreadyOpen,
+  wrongStage,
+  numbersUsedUp,
+  cellLimit,
+  noFreeRow,
+  wrongLength,
+}
 use Rattle.spec.specs.Numbers.{top}
 use Rattle.spec.specs.Bytes.{rowsOf, fits, limitOf, Memory}
 use Rattle.spec.specs.Run.{Call, Begin, Read, Write, Advance, Abandon, Trim, Free, refusals, Listed, step}

@@ -16,7 +16,27 @@ use Rattle.spec.specs.declared.Queue.{Queue}
 use Rattle.spec.specs.declared.Progress.{Progress}
 use Rattle.spec.specs.declared.Progress.the-variants.{Stage, Waiting, Conflict, Done}
 use Rattle.spec.specs.Answers.{unfit, noClient, notOpen}
-use Rattle.spec.specs.Image.{Image, withClients, withRows, withRequested, withTaken, withLast, setStage, setRequest, setCommit, setRequestWaits, setCommitWaits, unlisted, closed, stageOf, numberOf, snapshotOf, requestOf, commitNumberOf, isOpen}
+use Rattle.spec.specs.Image.{
+  Image,
+  withClients,
+  withRows,
+  withRequested,
+  withTaken,
+  withLast,
+  setStage,
+  setRequest,
+  setCommit,
+  setRequestWaits,
+  setCommitWaits,
+  unlisted,
+  closed,
+  stageOf,
+  numberOf,
+  snapshotOf,
+  requestOf,
+  commitNumberOf,
+  isOpen,
+}
 use Rattle.spec.specs.Calls.{Outcome, replies, refuse, removed}
 use Rattle.spec.specs.Numbers.{top}
 

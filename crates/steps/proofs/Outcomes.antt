@@ -30,12 +30,14 @@ module _ (s : Store) (d c : List ℕ) (k : ℕ) where
   -- a committed row stands behind the last one in use, and is the last commit
   pub commit-added : (c′ : List ℕ) → s .entries < s .rows
       → c′ ≡ layout 8 (s .entries) (rowsIn 8 (s .entries) c ++ (commitRow (getD (s .commit) k 0) (getD (s .number) k 0) ∷ [])) c
-      → afterOf (recordOf (s .rows) (s .limit) (countersOf (s .issued) (s .requested) (s .taken) (getD (s .commit) k 0)) (setStage k 12 (clientsIn s)) (s .used) (s .entries + 1)) d c′ (Answered (Stage 12))
+      → afterOf (recordOf (s .rows) (s .limit) (countersOf (s .issued) (s .requested) (s .taken) (getD (s .commit) k 0))
+      (setStage k 12 (clientsIn s)) (s .used) (s .entries + 1)) d c′ (Answered (Stage 12))
       ≡ encode s d c (addCommit k (decode s d c))
   unfolding addCommit goOn decode storeOf
   commit-added c′ g e =
       let r : Row = commitRow (getD (s .commit) k 0) (getD (s .number) k 0) in
-      let n : length (rowsIn 8 (s .entries) c ++ (r ∷ [])) ≡ s .entries + 1 = length-append (rowsIn 8 (s .entries) c) (r ∷ []) ∙ rw (length-rows 8 (s .entries) c) in
+      let n : length (rowsIn 8 (s .entries) c ++ (r ∷ [])) ≡ s .entries + 1 = length-append (rowsIn 8 (s .entries) c) (r ∷ []) ∙ rw
+      (length-rows 8 (s .entries) c) in
       rw (length-rows 8 (s .entries) c, lt-leb (s .rows) (s .entries) g)
       (ends s d c _ _ _ _ _ (rw (n, length-rows 24 (s .used) d)) (sym (laid-same 24 (s .used) d)) e refl)
 

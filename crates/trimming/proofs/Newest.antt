@@ -30,7 +30,8 @@ not-both b e f =
 -- ---- numbers
 
 -- a number is above low where there is none
-pub between-number : (n low : ℕ) (x : Number) → low < 18446744073709551615 → between n low x ≡ (if ltb n (numberOr x) then leb (numberOr x) low else false)
+pub between-number : (n low : ℕ) (x : Number) → low < 18446744073709551615
+    → between n low x ≡ (if ltb n (numberOr x) then leb (numberOr x) low else false)
 unfolding between numberOr
 between-number n low (Some m) h = refl
 between-number n low None h = rw (lt-leb 18446744073709551615 low h) (sym (if-same (ltb n 18446744073709551615) false))
@@ -67,7 +68,8 @@ up-to-low low ds cs cell (Some n) h g = refl
 -- ---- the newest number of each cell
 
 -- the row adds nothing
-pub noted-same : (l : List ℕ) (cell number low : ℕ) → length l ≡ 1024 → (cell < 1024 → number ≤ low → number ≤ getD l cell 0) → Noted low cell number l l
+pub noted-same : (l : List ℕ) (cell number low : ℕ) → length l ≡ 1024 → (cell < 1024 → number ≤ low → number ≤ getD l cell 0)
+    → Noted low cell number l l
 noted-same l cell number low e h = record { size = e; each = λ x m g. absorb (ltb m (getD l x 0)) _ (by-cell x m g (eqb cell x) refl) }
   where
     absorb : (b z : Bool) → (z ≡ true → b ≡ true) → b ≡ (if b then true else z)
@@ -79,22 +81,26 @@ noted-same l cell number low e h = record { size = e; each = λ x m g. absorb (l
     by-number m true g f z = omega (arith, h g (leb-true number low z), ltb-true m number f)
     by-number m false g f z = absurd (not-both false refl z)
 
-    by-cell : (x m : ℕ) → x < 1024 → (b : Bool) → eqb cell x ≡ b → (if b then (if ltb m number then leb number low else false) else false) ≡ true → ltb m (getD l x 0) ≡ true
+    by-cell : (x m : ℕ) → x < 1024 → (b : Bool) → eqb cell x ≡ b
+        → (if b then (if ltb m number then leb number low else false) else false) ≡ true → ltb m (getD l x 0) ≡ true
     by-cell x m g true f z =
         let same : cell ≡ x = eqb-true cell x f in
         rw (← same) (lt-ltb m (getD l cell 0) (by-number m (ltb m number) (omega arith) refl z))
     by-cell x m g false f z = absurd (not-both false refl z)
 
 -- the row's number is the newest
-pub noted-newer : (l : List ℕ) (cell number low : ℕ) → length l ≡ 1024 → cell < 1024 → number ≤ low → getD l cell 0 < number → Noted low cell number l (set l cell number)
+pub noted-newer : (l : List ℕ) (cell number low : ℕ) → length l ≡ 1024 → cell < 1024 → number ≤ low → getD l cell 0 < number
+    → Noted low cell number l (set l cell number)
 noted-newer l cell number low e h g b = record { size = simp length-set e; each = λ x m k. by-cell x m (eqb cell x) refl }
   where
-    by-number : (m : ℕ) (t : Bool) → ltb m number ≡ t → ltb m number ≡ (if ltb m (getD l cell 0) then true else (if ltb m number then leb number low else false))
+    by-number : (m : ℕ) (t : Bool) → ltb m number ≡ t
+        → ltb m number ≡ (if ltb m (getD l cell 0) then true else (if ltb m number then leb number low else false))
     by-number m true f = rw (f, le-leb number low g) (sym (if-same (ltb m (getD l cell 0)) true))
     by-number m false f = rw (f, le-ltb m (getD l cell 0) (omega (arith, ltb-false m number f)))
 
     by-cell : (x m : ℕ) (t : Bool) → eqb cell x ≡ t
-        → ltb m (getD (set l cell number) x 0) ≡ (if ltb m (getD l x 0) then true else (if t then (if ltb m number then leb number low else false) else false))
+        → ltb m (getD (set l cell number) x 0) ≡ (if ltb m (getD l x 0) then true else
+        (if t then (if ltb m number then leb number low else false) else false))
     by-cell x m true f =
         let same : cell ≡ x = eqb-true cell x f in
         rw (← same, getD-set-same l cell number 0 (omega arith)) (by-number m (ltb m number) refl)
@@ -102,7 +108,8 @@ noted-newer l cell number low e h g b = record { size = simp length-set e; each 
 
 -- what is wanted of all rows: before any is noted, one row more, and after all
 abbrev pub Wanted : List Row → ℕ → ℕ → List ℕ → List ℕ → ℕ → Type 0
-Wanted cs low n s l i = (x m : ℕ) → x < 1024 → any (later cs low x m) (rowsIn 24 n s) ≡ (if ltb m (getD l x 0) then true else any (later cs low x m) (rowsFrom 24 n i s))
+Wanted cs low n s l i = (x m : ℕ) → x < 1024 → any (later cs low x m)
+    (rowsIn 24 n s) ≡ (if ltb m (getD l x 0) then true else any (later cs low x m) (rowsFrom 24 n i s))
 
 module _ (cs : List Row) (low n : ℕ) (s l : List ℕ) where
   pub newest-start : l ≡ replicate 1024 0 → Wanted cs low n s l 0

@@ -61,7 +61,8 @@ module _ (tag : ℕ → ℕ) (n : ℕ) where
         last = omega (arith, m .last);
         within = λ y. stored-at (λ v. v ≤ n) l x i y room (m .last) (λ ne. m .within y);
         filled = λ k g b. stored-at (λ v. v ≡ 0 → ⊥) l x i (place (tag k)) room (λ e. omega arith) (λ ne. m .filled k (later k g ne) b);
-        first = λ y k g. stored-at (λ v. suc k < v → place (tag k) ≡ y → ⊥) l x i y room (λ b e. omega arith) (λ ne b e. m .first y k (later k g (λ f. ne (sym e ∙ f))) b e);
+        first = λ y k g. stored-at (λ v. suc k < v → place (tag k) ≡ y → ⊥) l x i y room (λ b e. omega arith)
+            (λ ne b e. m .first y k (later k g (λ f. ne (sym e ∙ f))) b e);
       }
     where
       room : x < length l
@@ -112,7 +113,8 @@ module _ (n : ℕ) (s places : List ℕ) (h : Places (λ k. tagOf (rowAt 24 k s)
   row-nowhere z = any-none (hasTag t) 24 n s (λ k l. ne-eqb _ _ (not-there _ n places h t at e z k l))
 
   -- another tag has its place, and a pass from there on does not find it
-  pub row-missed : (r : ℕ) → (tagOf (rowAt 24 (at - 1) s) ≡ t → ⊥) → Next (λ k. tagOf (rowAt 24 k s) ≡ t) at n r → n ≤ r → any (hasTag t) (rowsIn 24 n s) ≡ false
+  pub row-missed : (r : ℕ) → (tagOf (rowAt 24 (at - 1) s) ≡ t → ⊥) → Next (λ k. tagOf (rowAt 24 k s) ≡ t) at n r → n ≤ r
+      → any (hasTag t) (rowsIn 24 n s) ≡ false
   unfolding hasTag
   row-missed r ne next g = any-none (hasTag t) 24 n s (λ k l. ne-eqb _ _ (missed k l (decLt (suc k) at) (decLt k at)))
     where

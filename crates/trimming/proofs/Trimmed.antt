@@ -27,7 +27,8 @@ trim-leaves low n m s c flags marks s′ c′ n′ m′ l f first g second =
     let left : List Row = filter p (rowsIn 24 n s) in
     let one : Left 24 n left s s′ n′ = rw (kept-where p flags 24 n s f) at first in
     let rows : rowsIn 24 n′ s′ ≡ left = rw (one .rows, one .bytes) (rows-laid 24 n left s (filter-wide 24 p (rowsIn 24 n s) (rows-wide 24 n s l))) in
-    let two : Left 8 m (filter (inUse (rowsIn 24 n′ s′)) (rowsIn 8 m c)) c c′ m′ = rw (kept-where (inUse (rowsIn 24 n′ s′)) marks 8 m c g) at second in
+    let two : Left 8 m (filter (inUse (rowsIn 24 n′ s′)) (rowsIn 8 m c)) c c′ m′ = rw (kept-where (inUse (rowsIn 24 n′ s′)) marks 8 m c g)
+    at second in
     record { data-rows = one; commit-rows = rw rows at two }
 
 -- no row is committed

@@ -45,7 +45,9 @@ numberOr (Some n) = n
 -- which counts where it is at most low
 pub record Noted (low cell number : ℕ) (l l′ : List ℕ) : Type 0 where
   pub size : length l′ ≡ 1024
-  pub each : (x m : ℕ) → x < 1024 → ltb m (getD l′ x 0) ≡ (if ltb m (getD l x 0) then true else (if eqb cell x then (if ltb m number then leb number low else false) else false))
+  pub each : (x m : ℕ) → x < 1024
+      → ltb m (getD l′ x 0) ≡ (if ltb m (getD l x 0) then true else
+      (if eqb cell x then (if ltb m number then leb number low else false) else false))
 
 -- the commit number of each of the n data rows in s
 pub record Numbers (n : ℕ) (cs : List Row) (s numbers : List ℕ) : Type 0 where
@@ -59,7 +61,8 @@ pub record Newest (low : ℕ) (cs ds : List Row) (newest : List ℕ) : Type 0 wh
 
 -- row i, of that number, is of the cell and committed above n and at most low
 abbrev pub IsLater : ℕ → ℕ → ℕ → ℕ → ℕ → List ℕ → Bool → Type 0
-IsLater low cell n number i d r = (cs : List Row) → number ≡ numberOr (commitOf (tagOf (rowAt dataWidth i d)) cs) → r ≡ later cs low cell n (rowAt dataWidth i d)
+IsLater low cell n number i d r = (cs : List Row) → number ≡ numberOr (commitOf (tagOf (rowAt dataWidth i d)) cs) → r ≡ later cs low cell n
+    (rowAt dataWidth i d)
 
 -- one of the rows is
 abbrev pub AnyLater : ℕ → ℕ → ℕ → ℕ → List ℕ → List ℕ → Bool → Type 0

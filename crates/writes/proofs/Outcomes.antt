@@ -51,7 +51,8 @@ module _ (s : Store) (d c : List ℕ) (k x : ℕ) (h : k < clients) (g : x < 102
 
 module _ (s : Store) (d c : List ℕ) where
   module _ (k x : ℕ) (v : List ℕ) where
-    pub added-limit : leb (s .limit) (cellsOf (getD (s .number) k 0) (rowsIn 24 (s .used) d)) ≡ true → added k x v (decode s d c) ≡ refuse cellLimit (decode s d c)
+    pub added-limit : leb (s .limit) (cellsOf (getD (s .number) k 0) (rowsIn 24 (s .used) d)) ≡ true
+        → added k x v (decode s d c) ≡ refuse cellLimit (decode s d c)
     unfolding added decode
     added-limit h = rw h
 
@@ -67,7 +68,8 @@ module _ (s : Store) (d c : List ℕ) where
       unfolding added decode storeOf
       added-row d′ g e =
           let r : Row = dataRow (getD (s .number) k 0) x v in
-          let n : length (rowsIn 24 (s .used) d ++ (r ∷ [])) ≡ s .used + 1 = length-append (rowsIn 24 (s .used) d) (r ∷ []) ∙ rw (length-rows 24 (s .used) d) in
+          let n : length (rowsIn 24 (s .used) d ++ (r ∷ [])) ≡ s .used + 1 = length-append (rowsIn 24 (s .used) d) (r ∷ []) ∙ rw
+          (length-rows 24 (s .used) d) in
           rw (h, length-rows 24 (s .used) d, lt-leb (s .rows) (s .used) g)
           (ends s d c _ _ _ _ _ (rw (n, length-rows 8 (s .entries) c)) e (sym (laid-same 8 (s .entries) c)) (rw n))
 

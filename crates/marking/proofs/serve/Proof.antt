@@ -41,7 +41,8 @@ module _ (low n m j : ℕ) (s c seen₀ marks₀ flags₀ uses₀ : List ℕ) (o
       → Walked low n m j s c seen₀ marks₀ flags₀ uses₀ seen marks flags uses (k + 1)
   past seen marks flags uses k l ne w =
       let other : tagOf (rowAt 24 k s) ≡ commitTag (rowAt 8 j c) → ⊥ = λ e. ne (entry-of-tag m c s k ordered j h e) in (
-        serving-other (leb (commitNumber (rowAt 8 j c)) low) (commitTag (rowAt 8 j c)) (j + 1) n j s marks₀ flags₀ uses₀ marks flags uses k l (w .0) other,
+        serving-other (leb (commitNumber (rowAt 8 j c)) low) (commitTag (rowAt 8 j c)) (j + 1) n j s marks₀ flags₀ uses₀ marks flags uses k
+            l (w .0) other,
         stamped-other (commitTag (rowAt 8 j c)) (j + 1) n s seen₀ seen k (w .1) other,
       )
 
@@ -102,7 +103,8 @@ rises : (c : tie.In-loop Inv-loop μ-loop)
 rises c =
     let a = c .before .before .before .before .before .before .args in
     let loop = c .before .loop in
-    chain-rises (rowEntry (a .entries) (a .commits .now) (a .rows .now)) (a .used) (a .follows .now) (a .j) (loop .i) (c .loop-test .taken) (loop .inv .0)
+    chain-rises (rowEntry (a .entries) (a .commits .now) (a .rows .now)) (a .used) (a .follows .now) (a .j) (loop .i) (c .loop-test .taken)
+    (loop .inv .0)
 
 returns-2 : tie.Need-returns-2 Inv-loop μ-loop
 returns-2 c =
@@ -121,7 +123,8 @@ met : (c : tie.Joined3 Inv-loop μ-loop)
     → let a = c .before .before .before .before .before .before .before .before .before .before .before .before .args in
     let loop = c .before .before .before .before .before .before .before .loop in
     Walked (a .low) (a .used) (a .entries) (a .j) (a .rows .now) (a .commits .now) (a .seen .now) (a .marks .now) (a .flags .now) (a .uses .now)
-    (set (loop .seen) (c .before .before .before .before .before .cell-at .result) (a .j + 1)) (c .if3 .marks) (c .if3 .flags) (c .if3 .uses) (loop .i + 1)
+    (set (loop .seen) (c .before .before .before .before .before .cell-at .result) (a .j + 1)) (c .if3 .marks) (c .if3 .flags)
+    (c .if3 .uses) (loop .i + 1)
 met c =
     let start = c .before .before .before .before .before .before .before .before .before .before .before .before in
     let a = start .args in
@@ -192,11 +195,13 @@ returns-3 c =
     let judged =
     judged-done (a .low) (a .used) (a .entries) (a .rows .now) (a .commits .now) (a .j) (pre .1 .0) (a .marks .now) (pre .1 .1 .1 .0) (pre .0)
     (a .seen .now) (a .flags .now) (a .uses .now) (pre .1 .1 .1 .1 .0)
-    (loop .seen) (loop .marks) (loop .flags) (loop .uses) (loop .i) (c .loop-test .left) (loop .inv .1 .0) (loop .inv .1 .1) (pre .1 .1 .1 .1 .1 .0) in
+    (loop .seen) (loop .marks) (loop .flags) (loop .uses) (loop .i) (c .loop-test .left) (loop .inv .1 .0) (loop .inv .1 .1)
+    (pre .1 .1 .1 .1 .1 .0) in
     let used =
     used-done (a .low) (a .used) (a .entries) (a .rows .now) (a .commits .now) (a .j) (pre .1 .0) (a .marks .now) (pre .1 .1 .1 .0) (pre .0)
     (a .seen .now) (a .flags .now) (a .uses .now) (pre .1 .1 .1 .1 .0)
-    (loop .seen) (loop .marks) (loop .flags) (loop .uses) (loop .i) (c .loop-test .left) (loop .inv .1 .0) (loop .inv .1 .1) (pre .1 .1 .1 .1 .1 .1) in
+    (loop .seen) (loop .marks) (loop .flags) (loop .uses) (loop .i) (c .loop-test .left) (loop .inv .1 .0) (loop .inv .1 .1)
+    (pre .1 .1 .1 .1 .1 .1) in
     (λ e. marked, (λ e. plain, (λ e. judged, (λ e. used, λ e. absurd (differ refl e)))))
 
 pub serve-spec : {M : Type 1} → statement M

@@ -19,7 +19,8 @@ returns c =
     let orderly = c .before .before .before .before .before .before .before .before .before .before .if1 .taken in
     let first = c .before .before .before .before .before .before .before .close-up in
     let second = c .before .before .close-up2 in (
-      trimmed-kept (a .low) (a .used) (a .entries) (a .rows .now) (a .commits .now) _ _ (first .last .0) (second .last .0) (first .result) (second .result)
+      trimmed-kept (a .low) (a .used) (a .entries) (a .rows .now) (a .commits .now) _ _ (first .last .0) (second .last .0) (first .result)
+          (second .result)
           (judged-end (a .low) (a .used) (a .entries) (a .rows .now) (a .commits .now) _ (newest .ensures .1 .1 .0 orderly))
           (used-end (a .low) (a .used) (a .entries) (a .rows .now) (a .commits .now) _ (newest .ensures .1 .1 .1 orderly))
           (first .ensures) (second .ensures),

@@ -62,7 +62,8 @@ place-small c = rw (c .place-of .ensures .0) at (c .place-of .ensures .1)
 chained : (c : tie.After-place-of Inv-loop μ-loop)
     → let a = c .before .before .before .before .before .before .before .args in
     let loop = c .before .before .before .before .before .loop in
-    Chain (tagPlace (a .commits .now)) (a .entries) (loop .nexts) (place (c .before .commit-tag-at .result)) (getD (loop .heads) (c .place-of .result) 0)
+    Chain (tagPlace (a .commits .now)) (a .entries) (loop .nexts) (place (c .before .commit-tag-at .result))
+    (getD (loop .heads) (c .place-of .result) 0)
 chained c =
     let a = c .before .before .before .before .before .before .before .args in
     let loop = c .before .before .before .before .before .loop in
@@ -128,7 +129,8 @@ loop-again c =
     let low : under (commitNumber (rowAt 8 (loop .i - 1) (a .commits .now))) (rowsFrom 8 (a .entries) (loop .i - 1 + 1) (a .commits .now)) ≡ true =
     rw (z, ← number .ensures)
     (loop .inv .3 (number .result) (omega (arith, number .ok))
-    ∙ lt-ltb (number .result) (loop .above) (omega (arith, c .before .before .before .before .before .before .before .before .before .if1 .left))) in (
+    ∙ lt-ltb (number .result) (loop .above)
+    (omega (arith, c .before .before .before .before .before .before .before .before .before .if1 .left))) in (
       omega (arith, loop .inv .0),
       c .link .ensures .one (tagPlace (a .commits .now)) (a .entries) h (sym (at .ensures .0 ∙ ap place (tag .ensures))) (rw z (loop .inv .1)),
       order-more (a .entries) (a .commits .now) (loop .i - 1) h low

@@ -120,7 +120,8 @@ loop-again c =
     let cell = pair .before .before .before .before .cell-at .result in
     let x = pair .pair-place .result in
     let t = tested inside in
-    tested-more (a .used) (a .entries) (a .rows .now) (a .entry .now) (loop .heads) (loop .nexts) (loop .i - 1) t (c .link .last .0) (c .link .last .1 .0)
+    tested-more (a .used) (a .entries) (a .rows .now) (a .entry .now) (loop .heads) (loop .nexts) (loop .i - 1) t (c .link .last .0)
+    (c .link .last .1 .0)
     (c .link .ensures .one (openPlace (a .entries) (a .entry .now) (a .rows .now)) (a .used) (omega (arith, t .end))
     (open-at (a .used) (a .entries) (a .rows .now) (a .entry .now) (loop .heads) (loop .nexts) (loop .i - 1) t tag cell x (row pair)) (t .linked))
     (open-alone (a .used) (a .entries) (a .rows .now) (a .entry .now) (loop .heads) (loop .nexts) (loop .i - 1) t tag cell x (row pair)
@@ -130,7 +131,8 @@ loop-again-2 : tie.Need-loop-again-2 Inv-loop μ-loop
 loop-again-2 c =
     let a = c .before .before .before .before .before .args in
     let loop = c .before .before .before .loop in
-    tested-past (a .used) (a .entries) (a .rows .now) (a .entry .now) (loop .heads) (loop .nexts) (loop .i - 1) (tested (c .before .before)) (c .if1 .left)
+    tested-past (a .used) (a .entries) (a .rows .now) (a .entry .now) (loop .heads) (loop .nexts) (loop .i - 1) (tested (c .before .before))
+    (c .if1 .left)
 
 returns-3 : tie.Need-returns-3 Inv-loop μ-loop
 returns-3 c =
@@ -139,7 +141,8 @@ returns-3 c =
     let loop = c .before .loop in
     record {
       plain = λ e.
-          tested-all (a .used) (a .entries) (a .rows .now) (a .entry .now) (loop .heads) (loop .nexts) (loop .i) (a .first) (c .loop-test .left) (loop .inv)
+          tested-all (a .used) (a .entries) (a .rows .now) (a .entry .now) (loop .heads) (loop .nexts) (loop .i) (a .first)
+          (c .loop-test .left) (loop .inv)
           (start .pre .1 .1 .1);
       not-plain = λ e. absurd (differ refl e);
     }
@@ -148,5 +151,6 @@ pub open-plain-spec : {M : Type 1} → statement M
 open-plain-spec =
     tie.close
     (tie.spec Inv-loop μ-loop (λ c. search needs) loop-holds (λ c. search needs) (λ c. search needs) (λ c. search needs) cast-at
-    (λ c κs. search needs) returns (λ c κs. search needs) (λ c κs. search needs) (λ c κs. c .place-of .ensures .1) (λ c. search needs) (λ c. search needs)
+    (λ c κs. search needs) returns (λ c κs. search needs) (λ c κs. search needs) (λ c κs. c .place-of .ensures .1) (λ c. search needs)
+    (λ c. search needs)
     cast-own-chained own-chained-requires returns-2 link-requires (λ c. search needs) loop-again (λ c. search needs) loop-again-2 returns-3)

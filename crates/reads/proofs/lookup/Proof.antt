@@ -44,11 +44,19 @@ part-result-end-2 c = search needs
 
 returns : tie.Need-returns
 unfolding valueFrom
-returns c = rw (← ap (λ o. o .answer) (c .before .before .before .before .before .before .before .read .ensures), c .before .before .before .before .before .answer .given .1, c .before .before .reading .given .1) (c .value .ensures)
+returns c = rw (
+  ← ap (λ o. o .answer) (c .before .before .before .before .before .before .before .read .ensures),
+  c .before .before .before .before .before .answer .given .1,
+  c .before .before .reading .given .1,
+) (c .value .ensures)
 
 returns-2 : tie.Need-returns-2
 unfolding valueFrom
-returns-2 c = rw (← ap (λ o. o .answer) (c .before .before .before .before .before .before .read .ensures), c .before .before .before .before .answer .given .1, c .before .enum-told .given .1)
+returns-2 c = rw (
+  ← ap (λ o. o .answer) (c .before .before .before .before .before .before .read .ensures),
+  c .before .before .before .before .answer .given .1,
+  c .before .enum-told .given .1,
+)
 
 returns-3 : tie.Need-returns-3
 unfolding valueFrom

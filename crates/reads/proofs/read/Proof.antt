@@ -29,7 +29,8 @@ returns-2 : tie.Need-returns-2
 unfolding read
 returns-2 c =
     let a = c .before .before .before .before .before .before .args in
-    rw (c .no-read2 .ensures) (refuses _ _ _ _ _ (sym (c .before .before .before .fit .ensures) ∙ not-false _ (c .before .before .if1 .left)) (rw (le-leb clients (a .client) (omega arith))))
+    rw (c .no-read2 .ensures) (refuses _ _ _ _ _ (sym (c .before .before .before .fit .ensures) ∙ not-false _
+    (c .before .before .if1 .left)) (rw (le-leb clients (a .client) (omega arith))))
 
 no-read-requires-3 : tie.Need-no-read-requires-3
 no-read-requires-3 c κs = search needs
@@ -38,7 +39,8 @@ returns-3 : tie.Need-returns-3
 unfolding read
 returns-3 c =
     let a = c .before .before .before .before .before .before .before .args in
-    rw (c .no-read3 .ensures) (refuses _ _ _ _ _ (sym (c .before .before .before .before .fit .ensures) ∙ not-false _ (c .before .before .before .if1 .left)) (rw (lt-leb clients (a .client) (omega arith), le-leb 1024 (a .cell) (omega arith))))
+    rw (c .no-read3 .ensures) (refuses _ _ _ _ _ (sym (c .before .before .before .before .fit .ensures) ∙ not-false _
+    (c .before .before .before .if1 .left)) (rw (lt-leb clients (a .client) (omega arith), le-leb 1024 (a .cell) (omega arith))))
 
 mul-number : tie.Need-mul-number
 mul-number c = search needs
@@ -54,7 +56,13 @@ unfolding read decode
 returns-4 c =
     let a = c .before .before .before .before .before .before .before .before .before .args in
     let s = a .store in
-    rw (c .no-read4 .ensures) (refuses _ _ _ _ _ (sym (c .before .before .before .before .before .before .fit .ensures) ∙ not-false _ (c .before .before .before .before .before .if1 .left)) (rw (lt-leb clients (a .client) (omega arith), lt-leb 1024 (a .cell) (omega arith), eq-eqb (getD (s .number) (a .client) 0) 0 (omega arith))))
+    rw (c .no-read4 .ensures) (refuses _ _ _ _ _ (sym (c .before .before .before .before .before .before .fit .ensures) ∙ not-false _
+    (c .before .before .before .before .before .if1 .left)) (rw (
+      lt-leb clients (a .client) (omega arith),
+      lt-leb 1024 (a .cell) (omega arith),
+      eq-eqb (getD (s .number) (a .client) 0) 0
+          (omega arith),
+    )))
 
 mul-if5 : tie.Need-mul-if5
 mul-if5 c = search needs
@@ -70,7 +78,15 @@ unfolding read decode
 returns-5 c =
     let a = c .before .before .before .before .before .before .before .before .before .before .before .args in
     let s = a .store in
-    rw (c .no-read5 .ensures) (refuses _ _ _ _ _ (sym (c .before .before .before .before .before .before .before .before .fit .ensures) ∙ not-false _ (c .before .before .before .before .before .before .before .if1 .left)) (rw (lt-leb clients (a .client) (omega arith), lt-leb 1024 (a .cell) (omega arith), ne-eqb (getD (s .number) (a .client) 0) 0 (c .before .before .before .if4 .left), lt-ltb 11 (getD (s .stage) (a .client) 0) (omega arith))))
+    rw (c .no-read5 .ensures) (refuses _ _ _ _ _ (sym (c .before .before .before .before .before .before .before .before .fit .ensures) ∙
+    not-false _ (c .before .before .before .before .before .before .before .if1 .left))
+    (rw (
+      lt-leb clients (a .client) (omega arith),
+      lt-leb 1024 (a .cell) (omega arith),
+      ne-eqb (getD (s .number) (a .client) 0) 0
+          (c .before .before .before .if4 .left),
+      lt-ltb 11 (getD (s .stage) (a .client) 0) (omega arith),
+    )))
 
 cast-used : tie.Need-cast-used
 cast-used c = search needs
@@ -85,7 +101,9 @@ array-read-snapshot : tie.Need-array-read-snapshot
 array-read-snapshot c = search needs
 
 look-for-requires : tie.Need-look-for-requires
-look-for-requires c κs = let f = fit-of _ _ _ (sym (c .before .before .before .before .before .before .before .before .before .before .fit .ensures) ∙ not-false _ (c .before .before .before .before .before .before .before .before .before .if1 .left)) in (omega arith, omega arith)
+look-for-requires c κs = let f = fit-of _ _ _
+    (sym (c .before .before .before .before .before .before .before .before .before .before .fit .ensures) ∙ not-false _
+    (c .before .before .before .before .before .before .before .before .before .if1 .left)) in (omega arith, omega arith)
 
 enum-known-seen : tie.Need-enum-known-seen
 enum-known-seen c = search needs
@@ -95,13 +113,18 @@ enum-told c = search needs
 
 returns-6 : tie.Need-returns-6
 returns-6 c =
-    refuses _ _ _ _ _ (sym (c .before .before .before .before .before .before .before .before .before .before .before .before .before .before .fit .ensures) ∙ not-false _ (c .before .before .before .before .before .before .before .before .before .before .before .before .before .if1 .left))
-    (read-found _ _ _ _ _ (omega arith) (omega arith) (c .before .before .before .before .before .before .before .before .before .if4 .left) (omega arith) _ _ (c .before .seen .given .1) (c .before .before .before .look-for .ensures))
+    refuses _ _ _ _ _
+    (sym (c .before .before .before .before .before .before .before .before .before .before .before .before .before .before .fit .ensures) ∙ not-false _ (c .before .before .before .before .before .before .before .before .before .before .before .before .before .if1 .left))
+    (read-found _ _ _ _ _ (omega arith) (omega arith) (c .before .before .before .before .before .before .before .before .before .if4 .left)
+    (omega arith) _ _ (c .before .seen .given .1) (c .before .before .before .look-for .ensures))
 
 returns-7 : tie.Need-returns-7
 returns-7 c =
-    refuses _ _ _ _ _ (sym (c .before .before .before .before .before .before .before .before .before .before .before .before .before .fit .ensures) ∙ not-false _ (c .before .before .before .before .before .before .before .before .before .before .before .before .if1 .left))
-    (read-found _ _ _ _ _ (omega arith) (omega arith) (c .before .before .before .before .before .before .before .before .if4 .left) (omega arith) _ _ (c .enum-told .given .1) (c .before .before .look-for .ensures))
+    refuses _ _ _ _ _
+    (sym (c .before .before .before .before .before .before .before .before .before .before .before .before .before .fit .ensures) ∙
+    not-false _ (c .before .before .before .before .before .before .before .before .before .before .before .before .if1 .left))
+    (read-found _ _ _ _ _ (omega arith) (omega arith) (c .before .before .before .before .before .before .before .before .if4 .left)
+    (omega arith) _ _ (c .enum-told .given .1) (c .before .before .look-for .ensures))
 
 pub read-spec : {M : Type 1} → statement M
 read-spec =

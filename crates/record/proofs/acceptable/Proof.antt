@@ -32,22 +32,47 @@ returns-2 c = let a = c .before .before .args in rw (eq-eqb (a .d) (24 * (a .d /
 
 returns-3 : tie.Need-returns-3
 unfolding accepts
-returns-3 c = let a = c .before .before .before .args in rw (eq-eqb (a .d) (24 * (a .d / 24)) (omega arith), le-ltb (a .d / 24) 1 (omega arith), lt-ltb 1024 (a .d / 24) (omega arith))
+returns-3 c = let a = c .before .before .before .args in rw (
+  eq-eqb (a .d) (24 * (a .d / 24)) (omega arith),
+  le-ltb (a .d / 24) 1
+      (omega arith),
+  lt-ltb 1024 (a .d / 24) (omega arith),
+)
 
 mul-if4 : tie.Need-mul-if4
 mul-if4 c = search needs
 
 returns-4 : tie.Need-returns-4
 unfolding accepts
-returns-4 c = let a = c .before .before .before .before .args in rw (eq-eqb (a .d) (24 * (a .d / 24)) (omega arith), le-ltb (a .d / 24) 1 (omega arith), le-ltb 1024 (a .d / 24) (omega arith), ne-eqb (a .c) (8 * (a .d / 24)) (c .if4 .taken))
+returns-4 c = let a = c .before .before .before .before .args in rw (
+  eq-eqb (a .d) (24 * (a .d / 24)) (omega arith),
+  le-ltb (a .d / 24) 1 (omega arith),
+  le-ltb 1024 (a .d / 24) (omega arith),
+  ne-eqb
+      (a .c) (8 * (a .d / 24)) (c .if4 .taken),
+)
 
 returns-5 : tie.Need-returns-5
 unfolding accepts
-returns-5 c = let a = c .before .before .before .before .before .args in rw (eq-eqb (a .d) (24 * (a .d / 24)) (omega arith), le-ltb (a .d / 24) 1 (omega arith), le-ltb 1024 (a .d / 24) (omega arith), eq-eqb (a .c) (8 * (a .d / 24)) (omega arith), eq-eqb (a .first) 0 (omega arith))
+returns-5 c = let a = c .before .before .before .before .before .args in rw (
+  eq-eqb (a .d) (24 * (a .d / 24)) (omega arith),
+  le-ltb (a .d / 24) 1 (omega arith),
+  le-ltb 1024 (a .d / 24) (omega arith),
+  eq-eqb
+      (a .c) (8 * (a .d / 24)) (omega arith),
+  eq-eqb (a .first) 0 (omega arith),
+)
 
 returns-6 : tie.Need-returns-6
 unfolding accepts
-returns-6 c = let a = c .before .before .before .before .before .args in rw (eq-eqb (a .d) (24 * (a .d / 24)) (omega arith), le-ltb (a .d / 24) 1 (omega arith), le-ltb 1024 (a .d / 24) (omega arith), eq-eqb (a .c) (8 * (a .d / 24)) (omega arith), ne-eqb (a .first) 0 (c .if5 .left)) (limit-test (a .limit))
+returns-6 c = let a = c .before .before .before .before .before .args in rw (
+  eq-eqb (a .d) (24 * (a .d / 24)) (omega arith),
+  le-ltb (a .d / 24) 1 (omega arith),
+  le-ltb 1024 (a .d / 24) (omega arith),
+  eq-eqb
+      (a .c) (8 * (a .d / 24)) (omega arith),
+  ne-eqb (a .first) 0 (c .if5 .left),
+) (limit-test (a .limit))
 
 pub acceptable-spec : {M : Type 1} → statement M
 acceptable-spec =

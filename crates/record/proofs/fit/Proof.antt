@@ -43,21 +43,42 @@ unfolding fits
 returns-4 c =
     let a = c .before .before .before .before .args in
     let s = a .store in
-    rw (le-ltb (s .rows) 1 (omega arith), le-ltb 1024 (s .rows) (omega arith), eq-eqb (a .d) (24 * s .rows) (omega arith), ne-eqb (a .c) (8 * s .rows) (c .if4 .taken))
+    rw (
+      le-ltb (s .rows) 1 (omega arith),
+      le-ltb 1024 (s .rows) (omega arith),
+      eq-eqb (a .d) (24 * s .rows) (omega arith),
+      ne-eqb (a .c)
+          (8 * s .rows) (c .if4 .taken),
+    )
 
 returns-5 : tie.Need-returns-5
 unfolding fits
 returns-5 c =
     let a = c .before .before .before .before .before .before .args in
     let s = a .store in
-    rw (le-ltb (s .rows) 1 (omega arith), le-ltb 1024 (s .rows) (omega arith), eq-eqb (a .d) (24 * s .rows) (omega arith), eq-eqb (a .c) (8 * s .rows) (omega arith), lt-ltb (s .rows) (s .used) (omega arith))
+    rw (
+      le-ltb (s .rows) 1 (omega arith),
+      le-ltb 1024 (s .rows) (omega arith),
+      eq-eqb (a .d) (24 * s .rows) (omega arith),
+      eq-eqb (a .c)
+          (8 * s .rows) (omega arith),
+      lt-ltb (s .rows) (s .used) (omega arith),
+    )
 
 returns-6 : tie.Need-returns-6
 unfolding fits
 returns-6 c =
     let a = c .before .before .before .before .before .before .before .before .args in
     let s = a .store in
-    rw (le-ltb (s .rows) 1 (omega arith), le-ltb 1024 (s .rows) (omega arith), eq-eqb (a .d) (24 * s .rows) (omega arith), eq-eqb (a .c) (8 * s .rows) (omega arith), le-ltb (s .rows) (s .used) (omega arith), lt-ltb (s .rows) (s .entries) (omega arith))
+    rw (
+      le-ltb (s .rows) 1 (omega arith),
+      le-ltb 1024 (s .rows) (omega arith),
+      eq-eqb (a .d) (24 * s .rows) (omega arith),
+      eq-eqb (a .c)
+          (8 * s .rows) (omega arith),
+      le-ltb (s .rows) (s .used) (omega arith),
+      lt-ltb (s .rows) (s .entries) (omega arith),
+    )
 
 stages-known-requires : tie.Need-stages-known-requires
 stages-known-requires c κs = search needs
@@ -67,7 +88,16 @@ unfolding fits
 returns-7 c =
     let a = c .before .before .before .before .before .before .before .before .before .before .before .args in
     let s = a .store in
-    rw (le-ltb (s .rows) 1 (omega arith), le-ltb 1024 (s .rows) (omega arith), eq-eqb (a .d) (24 * s .rows) (omega arith), eq-eqb (a .c) (8 * s .rows) (omega arith), le-ltb (s .rows) (s .used) (omega arith), le-ltb (s .rows) (s .entries) (omega arith)) (c .stages-known .ensures)
+    rw (
+      le-ltb (s .rows) 1 (omega arith),
+      le-ltb 1024 (s .rows) (omega arith),
+      eq-eqb (a .d) (24 * s .rows) (omega arith),
+      eq-eqb (a .c)
+          (8 * s .rows) (omega arith),
+      le-ltb (s .rows) (s .used) (omega arith),
+      le-ltb (s .rows) (s .entries) (omega arith),
+    )
+    (c .stages-known .ensures)
 
 pub fit-spec : {M : Type 1} → statement M
 fit-spec =

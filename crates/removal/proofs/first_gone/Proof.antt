@@ -26,7 +26,14 @@ loop-again : tie.Need-loop-again Inv-loop μ-loop
 loop-again c = (omega arith, below-more _ _ (c .before .before .before .loop .inv .1) (c .if1 .left))
 
 returns-2 : tie.Need-returns-2 Inv-loop μ-loop
-returns-2 c = record { start = omega arith; end = omega arith; misses = λ k g h. c .before .loop .inv .1 k (omega arith); hit = λ h. absurd (omega arith) }
+returns-2 c = record {
+  start = omega arith;
+  end = omega arith;
+  misses = λ k g h. c .before .loop .inv .1 k (omega arith);
+  hit = λ h. absurd
+      (omega arith);
+}
 
 pub first-gone-spec : {M : Type 1} → statement M
-first-gone-spec = tie.close (tie.spec Inv-loop μ-loop loop-holds (λ c. search needs) returns (λ c. search needs) (λ c. search needs) loop-again returns-2)
+first-gone-spec = tie.close (tie.spec Inv-loop μ-loop loop-holds (λ c. search needs) returns (λ c. search needs) (λ c. search needs)
+    loop-again returns-2)

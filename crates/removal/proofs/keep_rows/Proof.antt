@@ -18,7 +18,8 @@ abbrev μ-loop : tie.MeasureT-loop
 loop-holds : tie.Need-loop-holds Inv-loop μ-loop
 loop-holds c =
     let start = c .before in
-    moving-start (start .args .flags .now) (8 * start .args .words) (start .args .used) (start .args .buf .now) (start .pre .0) (start .args .first) (start .pre .1 .1 .0) (start .pre .1 .1 .1)
+    moving-start (start .args .flags .now) (8 * start .args .words) (start .args .used) (start .args .buf .now) (start .pre .0)
+    (start .args .first) (start .pre .1 .1 .0) (start .pre .1 .1 .1)
 
 room : (c : tie.After-move-row-arg Inv-loop μ-loop)
     → let a = c .before .before .before .before .before .before .args in
@@ -27,7 +28,8 @@ room : (c : tie.After-move-row-arg Inv-loop μ-loop)
 room c =
     let start = c .before .before .before .before .before .before in
     let loop = c .before .before .before .before .loop in
-    moving-room (start .args .flags .now) (8 * start .args .words) (start .args .used) (start .args .buf .now) (loop .buf) (loop .to) (loop .i) (start .pre .0) (c .before .before .before .loop-test .taken) (loop .inv)
+    moving-room (start .args .flags .now) (8 * start .args .words) (start .args .used) (start .args .buf .now) (loop .buf) (loop .to)
+    (loop .i) (start .pre .0) (c .before .before .before .loop-test .taken) (loop .inv)
 
 loop-again : tie.Need-loop-again Inv-loop μ-loop
 loop-again c =
@@ -37,7 +39,8 @@ loop-again c =
     ⊎-elim
     (λ w.
     rw (w .5 ∙ w .2 .ensures, w .6)
-    (moving-keep (a .flags .now) (8 * a .words) (a .used) (a .buf .now) (start .pre .0) (loop .buf) (loop .to) (loop .i) (omega arith) (w .0 .taken) (loop .inv)))
+    (moving-keep (a .flags .now) (8 * a .words) (a .used) (a .buf .now) (start .pre .0) (loop .buf) (loop .to) (loop .i) (omega arith)
+    (w .0 .taken) (loop .inv)))
     (λ w.
     rw (w .1, w .2)
     (moving-skip (a .flags .now) (8 * a .words) (a .used) (a .buf .now) (loop .buf) (loop .to) (loop .i) (omega arith) (w .0 .left) (loop .inv)))
@@ -48,12 +51,14 @@ returns c =
     let start = c .before .before .before in
     let a = start .args in
     let loop = c .before .loop in
-    moving-end (a .flags .now) (8 * a .words) (a .used) (a .buf .now) (start .pre .0) (loop .buf) (loop .to) (loop .i) (c .loop-test .left) (loop .inv)
+    moving-end (a .flags .now) (8 * a .words) (a .used) (a .buf .now) (start .pre .0) (loop .buf) (loop .to) (loop .i) (c .loop-test .left)
+    (loop .inv)
 
 pub keep-rows-spec : {M : Type 1} → statement M
 keep-rows-spec =
     tie.close
     (tie.spec
     Inv-loop μ-loop loop-holds (λ c. search needs)
-    (λ c. omega (arith, room c)) (λ c. omega (arith, room c)) (λ c. omega (arith, room c)) (λ c. omega (arith, room c)) (λ c κs. omega (arith, room c))
+    (λ c. omega (arith, room c)) (λ c. omega (arith, room c)) (λ c. omega (arith, room c)) (λ c. omega (arith, room c))
+    (λ c κs. omega (arith, room c))
     (λ c. search needs) (λ c. search needs) (λ c. search needs) loop-again (λ c. search needs) returns)

@@ -26,7 +26,8 @@ loop-again c =
     let loop = c .before .before .before .before .before .loop in
     let next : 8 * (loop .k + 1) ≡ 8 * loop .k + 8 = omega arith in (
       omega arith,
-      c .before .before .move-word .ensures ∙ rw (loop .inv .1, next) (moved-more (a .buf .now) (a .from) (a .to) (8 * loop .k) 8 (omega arith) (omega arith)),
+      c .before .before .move-word .ensures ∙ rw (loop .inv .1, next)
+          (moved-more (a .buf .now) (a .from) (a .to) (8 * loop .k) 8 (omega arith) (omega arith)),
       c .before .before .move-word .kept .0 ∙ loop .inv .2,
     )
 

@@ -12,7 +12,8 @@ use Rattle.removal.proofs.other_flags.Statement.{statement}
 use Rattle.removal.proofs.other_flags.Tie as tie
 
 abbrev Inv-loop : tie.InvT-loop
-Inv-loop rows first used tag flags₀ i₀ flags i = (length flags ≡ 1024) × ((k : ℕ) → k < i → getD flags k 0 ≡ (if otherTag tag (rowAt 24 k rows) then 1 else 0))
+Inv-loop rows first used tag flags₀ i₀ flags i = (length flags ≡ 1024) ×
+    ((k : ℕ) → k < i → getD flags k 0 ≡ (if otherTag tag (rowAt 24 k rows) then 1 else 0))
 
 abbrev μ-loop : tie.MeasureT-loop
 μ-loop rows first used tag flags₀ i₀ flags i = used - i
@@ -28,7 +29,8 @@ loop-again c =
     let a = c .before .before .before .before .args in
     let loop = c .before .before .loop in (
       simp length-set (loop .inv .0),
-      stored-more (λ k. if otherTag (a .tag) (rowAt 24 k (a .rows .now)) then 1 else 0) (loop .flags) (loop .i) (c .other-tag .result) (omega arith) (loop .inv .1) (c .other-tag .ensures),
+      stored-more (λ k. if otherTag (a .tag) (rowAt 24 k (a .rows .now)) then 1 else 0) (loop .flags) (loop .i) (c .other-tag .result)
+          (omega arith) (loop .inv .1) (c .other-tag .ensures),
     )
 
 returns : tie.Need-returns Inv-loop μ-loop

@@ -31,7 +31,8 @@ compact-requires c κs =
         (
           omega (arith, next .end, c .before .before .before .before .if1 .left),
           λ k h.
-              flag-stays (otherTag (start .args .tag)) (flags .result) 24 (start .args .used) (start .args .rows .now) k (flags .ensures) (omega (arith, next .end))
+              flag-stays (otherTag (start .args .tag)) (flags .result) 24 (start .args .used) (start .args .rows .now) k (flags .ensures)
+              (omega (arith, next .end))
               (other-yes (start .args .tag) _ (next .misses k (omega arith) h)),
         ),
       ),

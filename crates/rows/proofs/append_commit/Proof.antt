@@ -11,7 +11,8 @@ use Rattle.rows.proofs.append_commit.Tie as tie
 returns : tie.Need-returns
 returns c =
     let a = c .before .before .before .before .before .args in
-    rw (c .before .before .write-commit .ensures) (lent-tail (a .commits .now) (commitRow (a .number) (a .tag)) (8 * a .used) (simp length-commitRow (omega arith))
+    rw (c .before .before .write-commit .ensures) (lent-tail (a .commits .now) (commitRow (a .number) (a .tag)) (8 * a .used)
+    (simp length-commitRow (omega arith))
     ∙ sym (laid-append 8 (a .used) (commitRow (a .number) (a .tag)) (a .commits .now) (length-commitRow (a .number) (a .tag)) (omega arith)))
 
 pub append-commit-spec : {M : Type 1} → statement M

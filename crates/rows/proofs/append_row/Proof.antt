@@ -13,7 +13,8 @@ returns c =
     let a = c .before .before .before .before .before .before .args in
     rw (c .before .before .write-row .ensures)
     (lent-tail (a .rows .now) (dataRow (a .tag) (a .cell) (a .value .now)) (24 * a .used) (simp length-dataRow (omega arith))
-    ∙ sym (laid-append 24 (a .used) (dataRow (a .tag) (a .cell) (a .value .now)) (a .rows .now) (length-dataRow (a .tag) (a .cell) (a .value .now) ∙ omega arith) (omega arith)))
+    ∙ sym (laid-append 24 (a .used) (dataRow (a .tag) (a .cell) (a .value .now)) (a .rows .now)
+    (length-dataRow (a .tag) (a .cell) (a .value .now) ∙ omega arith) (omega arith)))
 
 pub append-row-spec : {M : Type 1} → statement M
 append-row-spec =

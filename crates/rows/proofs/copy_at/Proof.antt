@@ -20,8 +20,12 @@ loop-holds c = (search needs, paste-zero (c .args .dst .now) (c .args .at) (c .a
 loop-again : tie.Need-loop-again Inv-loop μ-loop
 loop-again c =
     let loop = c .before .before .loop in
-    let a = c .before .before .before .args in
-    (omega arith, paste-more (a .dst .now) (a .at) (a .src .now) (loop .i) (loop .dst) (loop .inv .1) (omega arith) (omega arith), simp length-set (loop .inv .2))
+    let a = c .before .before .before .args in (
+      omega arith,
+      paste-more (a .dst .now) (a .at) (a .src .now) (loop .i) (loop .dst) (loop .inv .1) (omega arith) (omega arith),
+      simp
+          length-set (loop .inv .2),
+    )
 
 returns : tie.Need-returns Inv-loop μ-loop
 returns c =

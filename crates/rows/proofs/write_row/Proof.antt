@@ -7,7 +7,11 @@ use Rattle.rows.proofs.write_row.Tie as tie
 returns : tie.Need-returns
 returns c =
     let start = c .before .before .before .before .before .before .before .before .before .before .before .before .before .before in
-    rw (c .before .before .copy-at .ensures, c .before .before .before .before .before .before .put-u322 .ensures, c .before .before .before .before .before .before .before .before .before .before .put-u32 .ensures)
+    rw (
+      c .before .before .copy-at .ensures,
+      c .before .before .before .before .before .before .put-u322 .ensures,
+      c .before .before .before .before .before .before .before .before .before .before .put-u32 .ensures,
+    )
     (row-written (start .args .tag) (start .args .cell) (start .args .value .now) (start .args .row .now) (omega arith) (omega arith))
 
 pub write-row-spec : {M : Type 1} → statement M

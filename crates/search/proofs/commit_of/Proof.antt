@@ -26,14 +26,22 @@ returns c =
     let a = c .before .before .before .before .before .before .args in
     let loop = c .before .before .before .before .loop in
     ap Some (c .commit-number-at .ensures)
-    ∙ sym (loop .inv ∙ rw (rows-step 8 (a .entries) (loop .i) (a .commits .now) (omega arith), eq-eqb _ _ (sym (c .before .before .commit-tag-at .ensures) ∙ c .before .if1 .taken)))
+    ∙ sym (loop .inv ∙ rw (
+      rows-step 8 (a .entries) (loop .i) (a .commits .now) (omega arith),
+      eq-eqb _ _
+          (sym (c .before .before .commit-tag-at .ensures) ∙ c .before .if1 .taken),
+    ))
 
 loop-again : tie.Need-loop-again Inv-loop μ-loop
 unfolding commitOf
 loop-again c =
     let a = c .before .before .before .before .before .args in
     let loop = c .before .before .before .loop in
-    loop .inv ∙ rw (rows-step 8 (a .entries) (loop .i) (a .commits .now) (omega arith), ne-eqb _ _ (λ e. c .if1 .left (c .before .commit-tag-at .ensures ∙ e)))
+    loop .inv ∙ rw (
+      rows-step 8 (a .entries) (loop .i) (a .commits .now) (omega arith),
+      ne-eqb _ _
+          (λ e. c .if1 .left (c .before .commit-tag-at .ensures ∙ e)),
+    )
 
 returns-2 : tie.Need-returns-2 Inv-loop μ-loop
 unfolding commitOf

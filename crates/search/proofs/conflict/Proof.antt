@@ -46,7 +46,8 @@ returns-2 : tie.Need-returns-2 Inv-loop μ-loop
 returns-2 c =
     let a = c .before .before .before .before .before .before .before .args in
     let loop = c .before .loop in
-    sym (loop .inv ∙ clash-end (a .tag) (a .snapshot) (a .used) (a .rows .now) (rowsIn 8 (a .entries) (a .commits .now)) (loop .best) (loop .i) (c .loop-test .left))
+    sym (loop .inv ∙ clash-end (a .tag) (a .snapshot) (a .used) (a .rows .now) (rowsIn 8 (a .entries) (a .commits .now)) (loop .best)
+    (loop .i) (c .loop-test .left))
 
 pub conflict-spec : {M : Type 1} → statement M
 conflict-spec =

@@ -20,14 +20,16 @@ returns : tie.Need-returns Inv-loop μ-loop
 returns c =
     let a = c .before .before .before .before .before .args in
     let loop = c .before .before .before .loop in
-    sym (loop .inv .1 ∙ any-last (hasTag (a .tag)) 24 (loop .i) (a .rows .now) (omega arith) ∙ rw (tag-yes (a .tag) _ (sym (c .before .tag-at .ensures) ∙ c .if1 .taken), or-true))
+    sym (loop .inv .1 ∙ any-last (hasTag (a .tag)) 24 (loop .i) (a .rows .now) (omega arith) ∙ rw
+    (tag-yes (a .tag) _ (sym (c .before .tag-at .ensures) ∙ c .if1 .taken), or-true))
 
 loop-again : tie.Need-loop-again Inv-loop μ-loop
 loop-again c =
     let a = c .before .before .before .before .before .args in
     let loop = c .before .before .before .loop in (
       omega arith,
-      loop .inv .1 ∙ any-last (hasTag (a .tag)) 24 (loop .i) (a .rows .now) (omega arith) ∙ rw (tag-no (a .tag) _ (λ e. c .if1 .left (c .before .tag-at .ensures ∙ e)), or-false),
+      loop .inv .1 ∙ any-last (hasTag (a .tag)) 24 (loop .i) (a .rows .now) (omega arith) ∙ rw
+          (tag-no (a .tag) _ (λ e. c .if1 .left (c .before .tag-at .ensures ∙ e)), or-false),
     )
 
 returns-2 : tie.Need-returns-2 Inv-loop μ-loop

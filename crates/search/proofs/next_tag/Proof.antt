@@ -25,8 +25,12 @@ returns c =
 loop-again : tie.Need-loop-again Inv-loop μ-loop
 loop-again c =
     let a = c .before .before .before .before .before .args in
-    let loop = c .before .before .before .loop in
-    (omega arith, omega arith, miss-more (λ k. tagOf (rowAt 24 k (a .rows .now)) ≡ a .tag) (a .from) (loop .i) (loop .inv .2) (λ e. c .if1 .left (c .before .tag-at .ensures ∙ e)))
+    let loop = c .before .before .before .loop in (
+      omega arith,
+      omega arith,
+      miss-more (λ k. tagOf (rowAt 24 k (a .rows .now)) ≡ a .tag) (a .from) (loop .i) (loop .inv .2)
+          (λ e. c .if1 .left (c .before .tag-at .ensures ∙ e)),
+    )
 
 returns-2 : tie.Need-returns-2 Inv-loop μ-loop
 returns-2 c =

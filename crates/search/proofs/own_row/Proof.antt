@@ -36,7 +36,8 @@ returns c =
     let a = c .before .before .before .before .before .before .args in
     let loop = c .before .before .before .loop in
     let h : loop .i < a .used = omega arith in
-    sym (loop .inv .3 ∙ own-found (a .tag) (a .cell) (a .used) (a .rows .now) (loop .n) (loop .i) h (loop .inv .1 h) (sym (c .before .cell-at .ensures) ∙ c .if1 .taken))
+    sym (loop .inv .3 ∙ own-found (a .tag) (a .cell) (a .used) (a .rows .now) (loop .n) (loop .i) h (loop .inv .1 h)
+    (sym (c .before .cell-at .ensures) ∙ c .if1 .taken))
 
 loop-again : tie.Need-loop-again Inv-loop μ-loop
 loop-again c =
@@ -48,8 +49,10 @@ loop-again c =
       pass .hit,
       omega (arith, pass .start),
       loop .inv .3
-          ∙ own-other (a .tag) (a .cell) (a .used) (a .rows .now) (loop .n) (loop .i) h (loop .inv .1 h) (λ e. c .before .if1 .left (c .before .before .cell-at .ensures ∙ e))
-          ∙ skip (ownRest (a .tag) (a .cell) (a .used) (a .rows .now) (loop .n + 1)) pass (own-skip (a .tag) (a .cell) (a .used) (a .rows .now) (loop .n + 1)),
+          ∙ own-other (a .tag) (a .cell) (a .used) (a .rows .now) (loop .n) (loop .i) h (loop .inv .1 h)
+          (λ e. c .before .if1 .left (c .before .before .cell-at .ensures ∙ e))
+          ∙ skip (ownRest (a .tag) (a .cell) (a .used) (a .rows .now) (loop .n + 1)) pass
+          (own-skip (a .tag) (a .cell) (a .used) (a .rows .now) (loop .n + 1)),
     )
 
 returns-2 : tie.Need-returns-2 Inv-loop μ-loop

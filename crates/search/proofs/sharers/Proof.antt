@@ -47,7 +47,8 @@ returns-2 c =
     let start = c .before .before .before .before .before in
     let a = start .args in
     let loop = c .before .loop in
-    share-end (a .tag) (a .queued) (a .used) (a .rows .now) (a .numbers .now) (loop .found) (loop .i) (loop .inv .1) (c .loop-test .left) (start .fits .queued .fits) (loop .inv .0)
+    share-end (a .tag) (a .queued) (a .used) (a .rows .now) (a .numbers .now) (loop .found) (loop .i) (loop .inv .1) (c .loop-test .left)
+    (start .fits .queued .fits) (loop .inv .0)
 
 pub sharers-spec : {M : Type 1} → statement M
 sharers-spec =

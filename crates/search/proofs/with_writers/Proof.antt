@@ -33,7 +33,8 @@ returns c =
     let start = c .before .before in
     let a = start .args in
     let loop = c .before .loop in
-    λ j. loop .inv j ∙ put-end (a .found) (a .queued) (loop .i) j (eqb (getD (a .numbers .now) j 0) (a .tag)) (start .fits .queued .fits) (omega arith)
+    λ j. loop .inv j ∙ put-end (a .found) (a .queued) (loop .i) j (eqb (getD (a .numbers .now) j 0) (a .tag)) (start .fits .queued .fits)
+    (omega arith)
 
 pub with-writers-spec : {M : Type 1} → statement M
 with-writers-spec =

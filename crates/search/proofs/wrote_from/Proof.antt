@@ -22,15 +22,20 @@ abbrev μ-loop : tie.MeasureT-loop
 loop-holds : tie.Need-loop-holds Inv-loop μ-loop
 loop-holds c =
     let a = c .before .before .args in
-    let pass = c .next-tag .ensures in
-    (pass .end, pass .hit, skip (λ k. wrote (rowsFrom 24 (a .used) k (a .rows .now)) (a .tag) (a .cell)) pass (λ k. wrote-miss (a .tag) (a .cell) 24 (a .used) k (a .rows .now)))
+    let pass = c .next-tag .ensures in (
+      pass .end,
+      pass .hit,
+      skip (λ k. wrote (rowsFrom 24 (a .used) k (a .rows .now)) (a .tag) (a .cell)) pass
+          (λ k. wrote-miss (a .tag) (a .cell) 24 (a .used) k (a .rows .now)),
+    )
 
 returns : tie.Need-returns Inv-loop μ-loop
 returns c =
     let a = c .before .before .before .before .before .before .args in
     let loop = c .before .before .before .loop in
     let h : loop .i < a .used = omega arith in
-    sym (loop .inv .2 ∙ wrote-hit (a .tag) (a .cell) 24 (a .used) (loop .i) (a .rows .now) h (loop .inv .1 h) ∙ rw (eq-eqb _ _ (sym (c .before .cell-at .ensures) ∙ c .if1 .taken)))
+    sym (loop .inv .2 ∙ wrote-hit (a .tag) (a .cell) 24 (a .used) (loop .i) (a .rows .now) h (loop .inv .1 h) ∙ rw
+    (eq-eqb _ _ (sym (c .before .cell-at .ensures) ∙ c .if1 .taken)))
 
 loop-again : tie.Need-loop-again Inv-loop μ-loop
 loop-again c =
@@ -43,7 +48,8 @@ loop-again c =
       loop .inv .2
           ∙ wrote-hit (a .tag) (a .cell) 24 (a .used) (loop .i) (a .rows .now) h (loop .inv .1 h)
           ∙ rw (ne-eqb _ _ (λ e. c .before .if1 .left (c .before .before .cell-at .ensures ∙ e)))
-          (skip (λ k. wrote (rowsFrom 24 (a .used) k (a .rows .now)) (a .tag) (a .cell)) pass (λ k. wrote-miss (a .tag) (a .cell) 24 (a .used) k (a .rows .now))),
+          (skip (λ k. wrote (rowsFrom 24 (a .used) k (a .rows .now)) (a .tag) (a .cell)) pass
+          (λ k. wrote-miss (a .tag) (a .cell) 24 (a .used) k (a .rows .now))),
     )
 
 returns-2 : tie.Need-returns-2 Inv-loop μ-loop

@@ -27,8 +27,16 @@ loop-again : tie.Need-loop-again Inv-loop μ-loop
 loop-again c =
     let l = c .before .before .before .loop in
     let a = c .before .before .before .before .args in
-    let h : l .o < length (l .buf) = omega arith in
-    (omega arith, omega arith, omega arith, simp length-set (l .inv .3), move-more (l .buf) (a .buf .now) (a .from) (l .o) (l .i) (l .inv .0) h (l .inv .3) (l .inv .4) (l .inv .5), move-rest (l .buf) (a .buf .now) (a .from) (l .o) (l .i) (l .inv .0) h (l .inv .3) _ (l .inv .5))
+    let h : l .o < length (l .buf) = omega arith in (
+      omega arith,
+      omega arith,
+      omega arith,
+      simp length-set (l .inv .3),
+      move-more (l .buf) (a .buf .now) (a .from) (l .o) (l .i)
+          (l .inv .0) h (l .inv .3) (l .inv .4) (l .inv .5),
+      move-rest (l .buf) (a .buf .now) (a .from) (l .o) (l .i) (l .inv .0) h
+          (l .inv .3) _ (l .inv .5),
+    )
 
 returns-2 : tie.Need-returns-2 Inv-loop μ-loop
 returns-2 c =

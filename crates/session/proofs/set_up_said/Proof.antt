@@ -13,7 +13,8 @@ returns : tie.Need-returns
 returns c =
     let a = c .before .before .before .before .before .before .before .before .args in
     let l = c .before .before .refused-line in
-    too-many (a .store) (a .rows .now) (a .commits .now) _ _ _ _ (SetUp (a .count) (a .first) (a .limit)) (a .count) (a .first) (a .limit) (c .before .before .before .before .if1 .taken) (l .ensures .0) (l .ensures .1)
+    too-many (a .store) (a .rows .now) (a .commits .now) _ _ _ _ (SetUp (a .count) (a .first) (a .limit)) (a .count) (a .first) (a .limit)
+    (c .before .before .before .before .if1 .taken) (l .ensures .0) (l .ensures .1)
 
 returns-2 : tie.Need-returns-2
 returns-2 c =
@@ -23,7 +24,13 @@ returns-2 c =
     let t = c .before .before .before .before .before .before .before .before .before .before .set-up in
     let l = c .before .before .before .free-line in
     rw (c .kept .ensures)
-    (set-up-spoken (a .store) (a .rows .now) (a .commits .now) _ _ _ _ (SetUp (a .count) (a .first) (a .limit)) (a .count) (a .first) (a .limit) (d .result) (e .result) (t .result .store) _ _ _ _ (t .result .answer) (c .before .before .before .before .before .before .before .before .before .before .before .before .before .before .before .if1 .left) (d .ensures .1) (e .ensures .1) (t .ensures) refl refl (l .ensures .0) (l .ensures .1))
+    (set-up-spoken (a .store) (a .rows .now) (a .commits .now) _ _ _ _ (SetUp (a .count) (a .first) (a .limit)) (a .count) (a .first)
+    (a .limit) (d .result) (e .result) (t .result .store) _ _ _ _ (t .result .answer)
+    (c .before .before .before .before .before .before .before .before .before .before .before .before .before .before .before .if1 .left) (d .ensures .1) (e .ensures .1) (t .ensures) refl refl (l .ensures .0) (l .ensures .1))
 
 pub set-up-said-spec : {M : Type 1} → statement M
-set-up-said-spec = tie.close (tie.spec (λ c κs. search needs) (λ c. search needs) returns (λ c. search needs) (λ c κs. search needs) (λ c. search needs) (λ c κs. search needs) (λ c. search needs) (λ c. simp length-take (omega (arith, c .before .before .front .ensures .0))) (λ c. search needs) (λ c. simp length-take (omega (arith, c .before .before .front2 .ensures .0))) (λ c κs. search needs) (λ c κs. search needs) (λ c κs. search needs) (λ c. search needs) (λ c. search needs) (λ c. search needs) returns-2)
+set-up-said-spec = tie.close (tie.spec (λ c κs. search needs) (λ c. search needs) returns (λ c. search needs) (λ c κs. search needs)
+    (λ c. search needs) (λ c κs. search needs) (λ c. search needs)
+    (λ c. simp length-take (omega (arith, c .before .before .front .ensures .0))) (λ c. search needs)
+    (λ c. simp length-take (omega (arith, c .before .before .front2 .ensures .0))) (λ c κs. search needs) (λ c κs. search needs)
+    (λ c κs. search needs) (λ c. search needs) (λ c. search needs) (λ c. search needs) returns-2)

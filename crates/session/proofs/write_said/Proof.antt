@@ -19,7 +19,13 @@ returns c =
     let t = c .before .before .before .before .before .before .before .write in
     let l = c .before .before .free-line in
     let v = c .before .before .before .before .before .before .before .before .before .before .before .value-in in
-    spoken (a .store) (a .rows .now) (a .commits .now) _ _ _ _ (call.Write (a .client) (a .cell) (valueIn (a .line .now) (a .place))) (Write (a .client) (a .cell) (a .place)) (d .result) (e .result) (t .result .store) _ _ _ _ _ (d .ensures .1) (e .ensures .1) (rw (v .ensures) at (t .ensures)) refl (sym (take-append-drop (e .result) (a .commits .now))) (l .ensures .0) (l .ensures .1)
+    spoken (a .store) (a .rows .now) (a .commits .now) _ _ _ _ (call.Write (a .client) (a .cell) (valueIn (a .line .now) (a .place)))
+    (Write (a .client) (a .cell) (a .place)) (d .result) (e .result) (t .result .store) _ _ _ _ _ (d .ensures .1) (e .ensures .1)
+    (rw (v .ensures) at (t .ensures)) refl (sym (take-append-drop (e .result) (a .commits .now))) (l .ensures .0) (l .ensures .1)
 
 pub write-said-spec : {M : Type 1} → statement M
-write-said-spec = tie.close (tie.spec (λ c. search needs) (λ c. search needs) (λ c κs. search needs) (λ c. search needs) (λ c. search needs) (λ c κs. search needs) (λ c κs. search needs) (λ c. search needs) (λ c. simp length-take (omega (arith, c .before .before .before .before .front .ensures .0))) (λ c. simp length-take (omega (arith, c .before .before .before .front2 .ensures .0))) (λ c. search needs) (λ c κs. search needs) (λ c κs. search needs) (λ c. search needs) (λ c. search needs) returns)
+write-said-spec = tie.close (tie.spec (λ c. search needs) (λ c. search needs) (λ c κs. search needs) (λ c. search needs) (λ c. search needs)
+    (λ c κs. search needs) (λ c κs. search needs) (λ c. search needs)
+    (λ c. simp length-take (omega (arith, c .before .before .before .before .front .ensures .0)))
+    (λ c. simp length-take (omega (arith, c .before .before .before .front2 .ensures .0))) (λ c. search needs) (λ c κs. search needs)
+    (λ c κs. search needs) (λ c. search needs) (λ c. search needs) returns)

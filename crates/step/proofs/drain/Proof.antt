@@ -40,7 +40,12 @@ returns-2 c =
     let out′ = k .last .1 .1 .1 .1 .1 .0 in
     let w′ = memoryOf (k .result .store) (k .last .1 .1 .1 .0) (k .last .1 .1 .1 .1 .0) in
     let same : length (l .out) ≡ length (a .out .now) = l .inv .1 in
-    let room : 90 ≤ length out′ = omega (arith, same, k .kept .1 .1 .1 .1 .1 .0, c .before .before .before .before .before .before .before .before .before .before .before .before .before .before .before .before .before .before .before .before .before .pre) in (
+    let room : 90 ≤ length out′ = omega (
+      arith,
+      same,
+      k .kept .1 .1 .1 .1 .1 .0,
+      c .before .before .before .before .before .before .before .before .before .before .before .before .before .before .before .before .before .before .before .before .before .pre,
+    ) in (
       search needs,
       λ e. stuck (a .buf .now) w₀ w w′ (l .from) (k .result .from) (l .out) out′
           (k .result .used) (l .inv .4) (l .inv .5) (k .ensures) (c .if2 .taken) room,

@@ -46,4 +46,5 @@ main-spec =
     tie.close
     (tie.spec
     Inv-loop μ-loop
-    (λ c κs. search needs) loop-holds turn-requires (λ c. search needs) (λ c κs. search needs) (λ c. search needs) loop-again finish-requires (λ c. search needs))
+    (λ c κs. search needs) loop-holds turn-requires (λ c. search needs) (λ c κs. search needs) (λ c. search needs) loop-again
+    finish-requires (λ c. search needs))

@@ -41,7 +41,8 @@ returns-2 c =
     let w = memoryOf (a .store) (a .rows .now) (a .commits .now) in
     let w′ = memoryOf (d .result .store) (d .last .1 .1 .0) (d .last .1 .1 .1 .0) in
     let chunk = came (a .buf .now) (r .last .0) (k .last .0) (a .have) n (d .result .from) (k .result) (r .ensures .1) on (r .ensures .0 .1) w w′ in
-    let t : d .result .fine ≡ true → Came w (take (a .have) (a .buf .now)) w′ (take (k .result) (k .last .0)) = λ e. chunk within (d .ensures .1 e) (k .ensures .0) in
+    let t : d .result .fine ≡ true → Came w (take (a .have) (a .buf .now)) w′ (take (k .result) (k .last .0)) = λ e. chunk within
+    (d .ensures .1 e) (k .ensures .0) in
     (omega (arith, k .ensures .1), (t, λ e. turned true (start .pre .1) (t e)))
 
 pub turn-spec : {M : Type 1} → statement M

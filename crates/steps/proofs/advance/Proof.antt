@@ -28,7 +28,8 @@ returns-2 : tie.Need-returns-2
 unfolding advance
 returns-2 c =
     let a = c .before .before .before .before .before .before .args in
-    rw (c .refuse2 .ensures) (refuses _ _ _ _ _ (sym (c .before .before .before .fit .ensures) ∙ not-false _ (c .before .before .if1 .left)) (rw (le-leb clients (a .client) (omega arith))))
+    rw (c .refuse2 .ensures) (refuses _ _ _ _ _ (sym (c .before .before .before .fit .ensures) ∙ not-false _ (c .before .before .if1 .left))
+    (rw (le-leb clients (a .client) (omega arith))))
 
 mul-if3 : tie.Need-mul-if3
 mul-if3 c = search needs
@@ -44,10 +45,19 @@ unfolding advance decode
 returns-3 c =
     let a = c .before .before .before .before .before .before .before .before .args in
     let s = a .store in
-    rw (c .refuse3 .ensures) (refuses _ _ _ _ _ (sym (c .before .before .before .before .before .fit .ensures) ∙ not-false _ (c .before .before .before .before .if1 .left)) (rw (lt-leb clients (a .client) (omega arith), eq-eqb (getD (s .number) (a .client) 0) 0 (omega arith))))
+    rw (c .refuse3 .ensures) (refuses _ _ _ _ _ (sym (c .before .before .before .before .before .fit .ensures) ∙ not-false _
+    (c .before .before .before .before .if1 .left)) (rw (
+      lt-leb clients (a .client) (omega arith),
+      eq-eqb
+          (getD (s .number) (a .client) 0) 0 (omega arith),
+    )))
 
 step-requires : tie.Need-step-requires
-step-requires c κs = (omega arith, (sym (c .before .before .before .before .before .before .fit .ensures) ∙ not-false _ (c .before .before .before .before .before .if1 .left)))
+step-requires c κs = (
+  omega arith,
+  (sym (c .before .before .before .before .before .before .fit .ensures) ∙ not-false _
+      (c .before .before .before .before .before .if1 .left)),
+)
 
 same-length : tie.Need-same-length
 same-length c = search needs
@@ -60,7 +70,13 @@ unfolding advance decode
 returns-4 c =
     let a = c .before .before .before .before .before .before .before .before .before .before .before .before .before .before .args in
     let s = a .store in
-    goes _ _ _ _ (sym (c .before .before .before .before .before .before .before .before .before .before .before .fit .ensures) ∙ not-false _ (c .before .before .before .before .before .before .before .before .before .before .if1 .left)) (rw (lt-leb clients (a .client) (omega arith), ne-eqb (getD (s .number) (a .client) 0) 0 (c .before .before .before .before .before .before .before .if3 .left)) (c .before .before .before .before .step .ensures))
+    goes _ _ _ _ (sym (c .before .before .before .before .before .before .before .before .before .before .before .fit .ensures) ∙ not-false
+    _ (c .before .before .before .before .before .before .before .before .before .before .if1 .left))
+    (rw (
+      lt-leb clients (a .client) (omega arith),
+      ne-eqb (getD (s .number) (a .client) 0) 0
+          (c .before .before .before .before .before .before .before .if3 .left),
+    ) (c .before .before .before .before .step .ensures))
 
 pub advance-spec : {M : Type 1} → statement M
 advance-spec =

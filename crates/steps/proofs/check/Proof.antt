@@ -34,7 +34,11 @@ enum-known-found : tie.Need-enum-known-found
 enum-known-found c = search needs
 
 remove-requires : tie.Need-remove-requires
-remove-requires c κs = let f = fit-of _ _ _ (c .before .before .before .before .before .before .before .before .before .before .before .before .pre .1) in (omega arith, (omega arith, omega arith))
+remove-requires c κs = let f = fit-of _ _ _
+    (c .before .before .before .before .before .before .before .before .before .before .before .before .pre .1) in (
+      omega arith,
+      (omega arith, omega arith),
+    )
 
 enum-told : tie.Need-enum-told
 enum-told c = search needs
@@ -46,13 +50,16 @@ same-length : tie.Need-same-length
 same-length c = search needs
 
 returns : tie.Need-returns
-returns c = removed-ends _ _ _ _ _ _ _ (c .before .before .remove .ensures) ∙ ap (encode _ _ _) (check-found _ _ _ _ _ (sym (c .before .before .before .before .before .found .given .1) ∙ c .before .before .before .before .before .before .before .conflict .ensures))
+returns c = removed-ends _ _ _ _ _ _ _ (c .before .before .remove .ensures) ∙ ap (encode _ _ _)
+    (check-found _ _ _ _ _ (sym (c .before .before .before .before .before .found .given .1) ∙
+    c .before .before .before .before .before .before .before .conflict .ensures))
 
 same-length-2 : tie.Need-same-length-2
 same-length-2 c = search needs
 
 returns-2 : tie.Need-returns-2
-returns-2 c = c .go-on .ensures _ _ ∙ ap (encode _ _ _) (check-found _ _ _ _ _ (sym (c .before .enum-told .given .1) ∙ c .before .before .before .conflict .ensures))
+returns-2 c = c .go-on .ensures _ _ ∙ ap (encode _ _ _) (check-found _ _ _ _ _
+    (sym (c .before .enum-told .given .1) ∙ c .before .before .before .conflict .ensures))
 
 pub check-spec : {M : Type 1} → statement M
 check-spec =

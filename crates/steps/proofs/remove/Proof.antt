@@ -29,7 +29,13 @@ cast-left c =
     let a = c .before .before .before .before .before .before .before .args in
     let r = c .before .before .remove-rows in
     let n = getD (a .store .number) (a .client) 0 in
-    omega (arith, r .ensures .rows, filter-fewer (otherTag n) (rowsIn 24 (a .store .used) (a .rows .now)), length-rows 24 (a .store .used) (a .rows .now))
+    omega (
+      arith,
+      r .ensures .rows,
+      filter-fewer (otherTag n) (rowsIn 24 (a .store .used) (a .rows .now)),
+      length-rows 24 (a .store .used)
+          (a .rows .now),
+    )
 
 close-requires : tie.Need-close-requires
 close-requires c κs = search needs

@@ -30,7 +30,8 @@ returns-2 : tie.Need-returns-2
 unfolding abandon
 returns-2 c =
     let a = c .before .before .before .before .before .before .args in
-    rw (c .no-figure2 .ensures) (refuses _ _ _ _ _ (sym (c .before .before .before .fit .ensures) ∙ not-false _ (c .before .before .if1 .left)) (rw (le-leb clients (a .client) (omega arith))))
+    rw (c .no-figure2 .ensures) (refuses _ _ _ _ _ (sym (c .before .before .before .fit .ensures) ∙ not-false _
+    (c .before .before .if1 .left)) (rw (le-leb clients (a .client) (omega arith))))
 
 mul-if3 : tie.Need-mul-if3
 mul-if3 c = search needs
@@ -46,7 +47,12 @@ unfolding abandon decode
 returns-3 c =
     let a = c .before .before .before .before .before .before .before .before .args in
     let s = a .store in
-    rw (c .no-figure3 .ensures) (refuses _ _ _ _ _ (sym (c .before .before .before .before .before .fit .ensures) ∙ not-false _ (c .before .before .before .before .if1 .left)) (rw (lt-leb clients (a .client) (omega arith), eq-eqb (getD (s .number) (a .client) 0) 0 (omega arith))))
+    rw (c .no-figure3 .ensures) (refuses _ _ _ _ _ (sym (c .before .before .before .before .before .fit .ensures) ∙ not-false _
+    (c .before .before .before .before .if1 .left)) (rw (
+      lt-leb clients (a .client) (omega arith),
+      eq-eqb
+          (getD (s .number) (a .client) 0) 0 (omega arith),
+    )))
 
 mul-if4 : tie.Need-mul-if4
 mul-if4 c = search needs
@@ -62,15 +68,28 @@ unfolding abandon decode
 returns-4 c =
     let a = c .before .before .before .before .before .before .before .before .before .before .args in
     let s = a .store in
-    rw (c .no-figure4 .ensures) (refuses _ _ _ _ _ (sym (c .before .before .before .before .before .before .before .fit .ensures) ∙ not-false _ (c .before .before .before .before .before .before .if1 .left)) (rw (lt-leb clients (a .client) (omega arith), ne-eqb (getD (s .number) (a .client) 0) 0 (c .before .before .before .if3 .left), le-leb 12 (getD (s .stage) (a .client) 0) (omega arith))))
+    rw (c .no-figure4 .ensures) (refuses _ _ _ _ _ (sym (c .before .before .before .before .before .before .before .fit .ensures) ∙
+    not-false _ (c .before .before .before .before .before .before .if1 .left))
+    (rw (
+      lt-leb clients (a .client) (omega arith),
+      ne-eqb (getD (s .number) (a .client) 0) 0 (c .before .before .before .if3 .left),
+      le-leb 12 (getD (s .stage) (a .client) 0) (omega arith),
+    )))
 
 remove-requires : tie.Need-remove-requires
-remove-requires c κs = let f = fit-of _ _ _ (sym (c .before .before .before .before .before .before .before .fit .ensures) ∙ not-false _ (c .before .before .before .before .before .before .if1 .left)) in (omega arith, (omega arith, omega arith))
+remove-requires c κs = let f = fit-of _ _ _ (sym (c .before .before .before .before .before .before .before .fit .ensures) ∙ not-false _
+    (c .before .before .before .before .before .before .if1 .left)) in (omega arith, (omega arith, omega arith))
 
 sub-t17 : tie.Need-sub-t17
 sub-t17 c =
-    let f = fit-of _ _ _ (sym (c .before .before .before .before .before .before .before .before .before .before .before .fit .ensures) ∙ not-false _ (c .before .before .before .before .before .before .before .before .before .before .if1 .left)) in
-    omega (arith, f .dataRows, removed-within _ _ (c .before .before .before .before .before .before .before .before .before .before .before .before .before .before .args .commits .now) _ _ _ (c .before .before .before .remove .ensures) (f .dataRows))
+    let f = fit-of _ _ _ (sym (c .before .before .before .before .before .before .before .before .before .before .before .fit .ensures) ∙
+    not-false _ (c .before .before .before .before .before .before .before .before .before .before .if1 .left)) in
+    omega (
+      arith,
+      f .dataRows,
+      removed-within _ _
+          (c .before .before .before .before .before .before .before .before .before .before .before .before .before .before .args .commits .now) _ _ _ (c .before .before .before .remove .ensures) (f .dataRows),
+    )
 
 same-length : tie.Need-same-length
 same-length c = search needs
@@ -78,9 +97,11 @@ same-length c = search needs
 returns-5 : tie.Need-returns-5
 returns-5 c =
     let gone = c .before .before .before .remove .ensures in
-    goes _ _ _ _ (sym (c .before .before .before .before .before .before .before .before .before .before .before .fit .ensures) ∙ not-false _ (c .before .before .before .before .before .before .before .before .before .before .if1 .left))
+    goes _ _ _ _ (sym (c .before .before .before .before .before .before .before .before .before .before .before .fit .ensures) ∙ not-false
+    _ (c .before .before .before .before .before .before .before .before .before .before .if1 .left))
     (removed-ends _ _ _ _ _ _ _ gone
-    ∙ ap (encode _ _ _) (abandon-removed _ _ _ _ _ (removed-figure _ _ _ _ _ _ gone) (omega arith) (c .before .before .before .before .before .before .before .if3 .left) (omega arith)))
+    ∙ ap (encode _ _ _) (abandon-removed _ _ _ _ _ (removed-figure _ _ _ _ _ _ gone) (omega arith)
+    (c .before .before .before .before .before .before .before .if3 .left) (omega arith)))
 
 pub abandon-spec : {M : Type 1} → statement M
 abandon-spec =

@@ -28,7 +28,8 @@ returns-2 : tie.Need-returns-2
 unfolding begin
 returns-2 c =
     let a = c .before .before .before .before .before .before .args in
-    rw (c .no-begin2 .ensures) (refuses _ _ _ _ _ (sym (c .before .before .before .fit .ensures) ∙ not-false _ (c .before .before .if1 .left)) (rw (le-leb clients (a .client) (omega arith))))
+    rw (c .no-begin2 .ensures) (refuses _ _ _ _ _ (sym (c .before .before .before .fit .ensures) ∙ not-false _
+    (c .before .before .if1 .left)) (rw (le-leb clients (a .client) (omega arith))))
 
 mul-if3 : tie.Need-mul-if3
 mul-if3 c = search needs
@@ -44,7 +45,12 @@ unfolding begin decode
 returns-3 c =
     let a = c .before .before .before .before .before .before .before .before .args in
     let s = a .store in
-    rw (c .no-begin3 .ensures) (refuses _ _ _ _ _ (sym (c .before .before .before .before .before .fit .ensures) ∙ not-false _ (c .before .before .before .before .if1 .left)) (rw (lt-leb clients (a .client) (omega arith), ne-eqb (getD (s .number) (a .client) 0) 0 (c .before .if3 .taken))))
+    rw (c .no-begin3 .ensures) (refuses _ _ _ _ _ (sym (c .before .before .before .before .before .fit .ensures) ∙ not-false _
+    (c .before .before .before .before .if1 .left)) (rw (
+      lt-leb clients (a .client) (omega arith),
+      ne-eqb
+          (getD (s .number) (a .client) 0) 0 (c .before .if3 .taken),
+    )))
 
 no-begin-requires-4 : tie.Need-no-begin-requires-4
 no-begin-requires-4 c κs = search needs
@@ -54,7 +60,14 @@ unfolding begin decode
 returns-4 c =
     let a = c .before .before .before .before .before .before .before .before .before .before .args in
     let s = a .store in
-    rw (c .no-begin4 .ensures) (refuses _ _ _ _ _ (sym (c .before .before .before .before .before .before .before .fit .ensures) ∙ not-false _ (c .before .before .before .before .before .before .if1 .left)) (rw (lt-leb clients (a .client) (omega arith), eq-eqb (getD (s .number) (a .client) 0) 0 (omega arith), eq-eqb (s .issued) 4294967295 (omega arith))))
+    rw (c .no-begin4 .ensures) (refuses _ _ _ _ _ (sym (c .before .before .before .before .before .before .before .fit .ensures) ∙ not-false
+    _ (c .before .before .before .before .before .before .if1 .left))
+    (rw (
+      lt-leb clients (a .client) (omega arith),
+      eq-eqb (getD (s .number) (a .client) 0) 0 (omega arith),
+      eq-eqb (s .issued)
+          4294967295 (omega arith),
+    )))
 
 add-number : tie.Need-add-number
 add-number c = search needs
@@ -106,7 +119,15 @@ unfolding begin begun decode
 returns-5 c =
     let a = c .before .before .before .before .before .before .before .before .before .before .before .before .before .before .before .before .args in
     let s = a .store in
-    settles _ _ _ _ _ _ _ (sym (c .before .before .before .before .before .before .before .before .before .before .before .before .before .fit .ensures) ∙ not-false _ (c .before .before .before .before .before .before .before .before .before .before .before .before .if1 .left)) (rw (lt-leb clients (a .client) (omega arith), eq-eqb (getD (s .number) (a .client) 0) 0 (omega arith), ne-eqb (s .issued) 4294967295 (c .before .before .before .before .before .before .before .if4 .left)))
+    settles _ _ _ _ _ _ _
+    (sym (c .before .before .before .before .before .before .before .before .before .before .before .before .before .fit .ensures) ∙
+    not-false _ (c .before .before .before .before .before .before .before .before .before .before .before .before .if1 .left))
+    (rw (
+      lt-leb clients (a .client) (omega arith),
+      eq-eqb (getD (s .number) (a .client) 0) 0 (omega arith),
+      ne-eqb (s .issued)
+          4294967295 (c .before .before .before .before .before .before .before .if4 .left),
+    ))
 
 pub begin-spec : {M : Type 1} → statement M
 begin-spec =

@@ -24,7 +24,8 @@ returns-2 : tie.Need-returns-2
 unfolding free decode
 returns-2 c =
     let a = c .before .before .before .before .before .args in
-    settles _ _ _ _ _ _ _ (sym (c .before .before .fit .ensures) ∙ not-false _ (c .before .if1 .left)) (rw (length-rows 24 (a .store .used) (a .rows .now)))
+    settles _ _ _ _ _ _ _ (sym (c .before .before .fit .ensures) ∙ not-false _ (c .before .if1 .left))
+    (rw (length-rows 24 (a .store .used) (a .rows .now)))
 
 pub free-spec : {M : Type 1} → statement M
 free-spec = tie.close (tie.spec fit-requires returns sub-t10 returns-2)

@@ -32,7 +32,9 @@ given-limit-requires : tie.Need-given-limit-requires
 given-limit-requires c κs = search needs
 
 sub-fresh : tie.Need-sub-fresh
-sub-fresh c = let a = accepted _ _ _ _ (sym (c .before .before .before .before .before .before .before .before .before .before .acceptable .ensures) ∙ not-false _ (c .before .before .before .before .before .before .before .before .before .if1 .left)) in omega (arith, a .first)
+sub-fresh c = let a = accepted _ _ _ _
+    (sym (c .before .before .before .before .before .before .before .before .before .before .acceptable .ensures) ∙ not-false _
+    (c .before .before .before .before .before .before .before .before .before .if1 .left)) in omega (arith, a .first)
 
 fresh-requires-2 : tie.Need-fresh-requires-2
 fresh-requires-2 c κs = search needs
@@ -47,7 +49,14 @@ returns-2 : tie.Need-returns-2
 unfolding setUp
 returns-2 c =
     let a = c .before .before .before .before .before .before .before .before .before .before .before .acceptable in
-    rw (← a .ensures, not-false (a .result) (c .before .before .before .before .before .before .before .before .before .before .if1 .left), c .fresh2 .ensures, c .before .given-limit .ensures, c .before .before .before .before .before .before .before .before .clear .ensures, c .before .before .before .before .clear2 .ensures)
+    rw (
+      ← a .ensures,
+      not-false (a .result) (c .before .before .before .before .before .before .before .before .before .before .if1 .left),
+      c .fresh2 .ensures,
+      c .before .given-limit .ensures,
+      c .before .before .before .before .before .before .before .before .clear .ensures,
+      c .before .before .before .before .clear2 .ensures,
+    )
 
 pub set-up-spec : {M : Type 1} → statement M
 set-up-spec =

@@ -28,17 +28,24 @@ cast-entries : tie.Need-cast-entries
 cast-entries c = search needs
 
 trim-requires : tie.Need-trim-requires
-trim-requires c κs = let f = fit-of _ _ _ (sym (c .before .before .before .before .before .before .fit .ensures) ∙ not-false _ (c .before .before .before .before .before .if1 .left)) in (omega arith, (omega arith, (omega arith, omega arith)))
+trim-requires c κs = let f = fit-of _ _ _ (sym (c .before .before .before .before .before .before .fit .ensures) ∙ not-false _
+    (c .before .before .before .before .before .if1 .left)) in (omega arith, (omega arith, (omega arith, omega arith)))
 
 cast-kept : tie.Need-cast-kept
-cast-kept c = let f = fit-of _ _ _ (sym (c .before .before .before .before .before .before .before .before .before .before .before .before .fit .ensures) ∙ not-false _ (c .before .before .before .before .before .before .before .before .before .before .before .if1 .left)) in let t = trimmed-fewer _ _ _ _ _ _ _ _ _ (c .before .before .before .before .before .trim .ensures) in omega arith
+cast-kept c = let f = fit-of _ _ _
+    (sym (c .before .before .before .before .before .before .before .before .before .before .before .before .fit .ensures) ∙ not-false _
+    (c .before .before .before .before .before .before .before .before .before .before .before .if1 .left)) in let t = trimmed-fewer _ _ _ _
+    _ _ _ _ _ (c .before .before .before .before .before .trim .ensures) in omega arith
 
 cast-rest : tie.Need-cast-rest
-cast-rest c = let f = fit-of _ _ _ (sym (c .before .before .before .before .before .before .before .before .before .before .before .before .before .fit .ensures) ∙ not-false _ (c .before .before .before .before .before .before .before .before .before .before .before .before .if1 .left)) in let t = trimmed-fewer _ _ _ _ _ _ _ _ _ (c .before .before .before .before .before .before .trim .ensures) in omega arith
+cast-rest c = let f = fit-of _ _ _
+    (sym (c .before .before .before .before .before .before .before .before .before .before .before .before .before .fit .ensures) ∙
+    not-false _ (c .before .before .before .before .before .before .before .before .before .before .before .before .if1 .left)) in let t = trimmed-fewer _ _ _ _ _ _ _ _ _ (c .before .before .before .before .before .before .trim .ensures) in omega arith
 
 sub-t20 : tie.Need-sub-t20
 sub-t20 c =
-    let f = fit-of _ _ _ (sym (c .before .before .before .before .before .before .before .before .before .before .before .before .before .before .fit .ensures) ∙ not-false _ (c .before .before .before .before .before .before .before .before .before .before .before .before .before .if1 .left)) in
+    let f = fit-of _ _ _
+    (sym (c .before .before .before .before .before .before .before .before .before .before .before .before .before .before .fit .ensures) ∙ not-false _ (c .before .before .before .before .before .before .before .before .before .before .before .before .before .if1 .left)) in
     let t = trimmed-fewer _ _ _ _ _ _ _ _ _ (c .before .before .before .before .before .before .before .trim .ensures) in
     omega arith
 
@@ -49,7 +56,12 @@ same-length-2 : tie.Need-same-length-2
 same-length-2 c = search needs
 
 returns-2 : tie.Need-returns-2
-returns-2 c = goes _ _ _ _ (sym (c .before .before .before .before .before .before .before .before .before .before .before .before .before .before .fit .ensures) ∙ not-false _ (c .before .before .before .before .before .before .before .before .before .before .before .before .before .if1 .left)) (trim-ends _ _ _ _ _ _ _ _ (c .before .before .before .before .before .before .before .before .before .before .before .before .lowest .ensures _ _) (c .before .before .before .before .before .before .before .trim .ensures))
+returns-2 c = goes _ _ _ _
+    (sym (c .before .before .before .before .before .before .before .before .before .before .before .before .before .before .fit .ensures) ∙
+    not-false _ (c .before .before .before .before .before .before .before .before .before .before .before .before .before .if1 .left))
+    (trim-ends _ _ _ _ _ _ _ _
+    (c .before .before .before .before .before .before .before .before .before .before .before .before .lowest .ensures _ _)
+    (c .before .before .before .before .before .before .before .trim .ensures))
 
 pub trim-spec : {M : Type 1} → statement M
 trim-spec =

@@ -43,7 +43,8 @@ returns-5 : tie.Need-returns-5 Inv-loop μ-loop
 returns-5 c =
     let d = c .before .before .before in
     sym (d .before .before .before .loop .inv .2
-    ∙ digits-large _ _ _ (d .digit-of2 .ensures) (d .before .before .loop-test .taken) _ (c .before .before .if3 .left) (c .before .if4 .left) (c .if5 .taken))
+    ∙ digits-large _ _ _ (d .digit-of2 .ensures) (d .before .before .loop-test .taken) _ (c .before .before .if3 .left)
+    (c .before .if4 .left) (c .if5 .taken))
 
 loop-again : tie.Need-loop-again Inv-loop μ-loop
 loop-again c =
@@ -51,7 +52,8 @@ loop-again c =
       omega arith,
       omega arith,
       d .before .before .before .loop .inv .2
-          ∙ digits-more _ _ _ (d .digit-of2 .ensures) (d .before .before .loop-test .taken) _ (c .before .before .if3 .left) (c .before .if4 .left) (c .if5 .left),
+          ∙ digits-more _ _ _ (d .digit-of2 .ensures) (d .before .before .loop-test .taken) _ (c .before .before .if3 .left)
+          (c .before .if4 .left) (c .if5 .left),
     )
 
 returns-6 : tie.Need-returns-6 Inv-loop μ-loop

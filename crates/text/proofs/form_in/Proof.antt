@@ -75,22 +75,44 @@ returns c = rw (← c .before .before .begins .ensures, c .before .if1 .taken) (
 returns-2 : tie.Need-returns-2
 returns-2 c =
     let d = c .before .before .before .before in
-    sym (past-1 (d .before .before .before) ∙ rw (← d .before .begins2 .ensures, d .if2 .taken, ← c .before .before .before .one-at .ensures, c .before .client .given .1))
+    sym (past-1 (d .before .before .before) ∙ rw (
+      ← d .before .begins2 .ensures,
+      d .if2 .taken,
+      ←
+          c .before .before .before .one-at .ensures,
+      c .before .client .given .1,
+    ))
 
 returns-3 : tie.Need-returns-3
 returns-3 c =
     let d = c .before .before .before in
-    sym (past-1 (d .before .before .before) ∙ rw (← d .before .begins2 .ensures, d .if2 .taken, ← c .before .before .one-at .ensures, c .enum-told .given .1))
+    sym (past-1 (d .before .before .before) ∙ rw (
+      ← d .before .begins2 .ensures,
+      d .if2 .taken,
+      ← c .before .before .one-at .ensures,
+      c .enum-told .given .1,
+    ))
 
 returns-4 : tie.Need-returns-4
 returns-4 c =
     let d = c .before .before .before .before in
-    sym (past-2 (d .before .before .before) ∙ rw (← d .before .begins3 .ensures, d .if3 .taken, ← c .before .before .before .two-at .ensures, c .before .client2 .given .1))
+    sym (past-2 (d .before .before .before) ∙ rw (
+      ← d .before .begins3 .ensures,
+      d .if3 .taken,
+      ←
+          c .before .before .before .two-at .ensures,
+      c .before .client2 .given .1,
+    ))
 
 returns-5 : tie.Need-returns-5
 returns-5 c =
     let d = c .before .before .before in
-    sym (past-2 (d .before .before .before) ∙ rw (← d .before .begins3 .ensures, d .if3 .taken, ← c .before .before .two-at .ensures, c .enum-told2 .given .1))
+    sym (past-2 (d .before .before .before) ∙ rw (
+      ← d .before .begins3 .ensures,
+      d .if3 .taken,
+      ← c .before .before .two-at .ensures,
+      c .enum-told2 .given .1,
+    ))
 
 returns-6 : tie.Need-returns-6
 returns-6 c =
@@ -99,22 +121,44 @@ returns-6 c =
 returns-7 : tie.Need-returns-7
 returns-7 c =
     let d = c .before .before .before .before in
-    sym (past-4 (d .before .before .before) ∙ rw (← d .before .begins5 .ensures, d .if5 .taken, ← c .before .before .before .one-at2 .ensures, c .before .client3 .given .1))
+    sym (past-4 (d .before .before .before) ∙ rw (
+      ← d .before .begins5 .ensures,
+      d .if5 .taken,
+      ←
+          c .before .before .before .one-at2 .ensures,
+      c .before .client3 .given .1,
+    ))
 
 returns-8 : tie.Need-returns-8
 returns-8 c =
     let d = c .before .before .before in
-    sym (past-4 (d .before .before .before) ∙ rw (← d .before .begins5 .ensures, d .if5 .taken, ← c .before .before .one-at2 .ensures, c .enum-told3 .given .1))
+    sym (past-4 (d .before .before .before) ∙ rw (
+      ← d .before .begins5 .ensures,
+      d .if5 .taken,
+      ← c .before .before .one-at2 .ensures,
+      c .enum-told3 .given .1,
+    ))
 
 returns-9 : tie.Need-returns-9
 returns-9 c =
     let d = c .before .before .before .before in
-    sym (past-5 (d .before .before .before) ∙ rw (← d .before .begins6 .ensures, d .if6 .taken, ← c .before .before .before .one-at3 .ensures, c .before .client4 .given .1))
+    sym (past-5 (d .before .before .before) ∙ rw (
+      ← d .before .begins6 .ensures,
+      d .if6 .taken,
+      ←
+          c .before .before .before .one-at3 .ensures,
+      c .before .client4 .given .1,
+    ))
 
 returns-10 : tie.Need-returns-10
 returns-10 c =
     let d = c .before .before .before in
-    sym (past-5 (d .before .before .before) ∙ rw (← d .before .begins6 .ensures, d .if6 .taken, ← c .before .before .one-at3 .ensures, c .enum-told4 .given .1))
+    sym (past-5 (d .before .before .before) ∙ rw (
+      ← d .before .begins6 .ensures,
+      d .if6 .taken,
+      ← c .before .before .one-at3 .ensures,
+      c .enum-told4 .given .1,
+    ))
 
 returns-11 : tie.Need-returns-11
 returns-11 c =

@@ -38,7 +38,8 @@ loop-again c =
       omega arith,
       omega arith,
       simp length-set (l .inv .2),
-      bytes-more _ _ _ _ _ (l .inv .2) (l .inv .3) _ _ (c .before .before .hex-of .ensures .0) (c .hex-of2 .ensures .0) (c .before .before .before .before .loop-test .taken) h,
+      bytes-more _ _ _ _ _ (l .inv .2) (l .inv .3) _ _ (c .before .before .hex-of .ensures .0) (c .hex-of2 .ensures .0)
+          (c .before .before .before .before .loop-test .taken) h,
     )
 
 returns-3 : tie.Need-returns-3 Inv-loop μ-loop

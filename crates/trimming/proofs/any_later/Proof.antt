@@ -15,7 +15,8 @@ use Rattle.trimming.proofs.any_later.Tie as tie
 
 abbrev Inv-loop : tie.InvT-loop
 Inv-loop rows used numbers low cell n i₀ i =
-    (cs : List Row) → Numbers used cs rows numbers → any (later cs low cell n) (rowsIn 24 used rows) ≡ any (later cs low cell n) (rowsFrom 24 used i rows)
+    (cs : List Row) → Numbers used cs rows numbers
+    → any (later cs low cell n) (rowsIn 24 used rows) ≡ any (later cs low cell n) (rowsFrom 24 used i rows)
 
 abbrev μ-loop : tie.MeasureT-loop
 μ-loop rows used numbers low cell n i₀ i = used - i
@@ -47,4 +48,5 @@ pub any-later-spec : {M : Type 1} → statement M
 any-later-spec =
     tie.close
     (tie.spec
-    Inv-loop μ-loop loop-holds (λ c. search needs) (λ c. search needs) (λ c κs. search needs) returns (λ c. search needs) (λ c. search needs) loop-again returns-2)
+    Inv-loop μ-loop loop-holds (λ c. search needs) (λ c. search needs) (λ c κs. search needs) returns (λ c. search needs)
+    (λ c. search needs) loop-again returns-2)

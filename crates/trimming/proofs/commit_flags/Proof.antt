@@ -24,7 +24,8 @@ loop-again c =
     let a = c .before .before .before .before .before .before .before .before .args in
     let loop = c .before .before .before .before .loop in (
       simp length-set (loop .inv .0),
-      stored-more (λ k. if inUse (rowsIn 24 (a .left) (a .rows .now)) (rowAt 8 k (a .commits .now)) then 1 else 0) (loop .flags) (loop .i) (c .use-flag .result) (omega arith) (loop .inv .1)
+      stored-more (λ k. if inUse (rowsIn 24 (a .left) (a .rows .now)) (rowAt 8 k (a .commits .now)) then 1 else 0) (loop .flags) (loop .i)
+          (c .use-flag .result) (omega arith) (loop .inv .1)
           (c .use-flag .ensures ∙ rw (c .before .commit-tag-at .ensures)),
     )
 
@@ -35,4 +36,5 @@ pub commit-flags-spec : {M : Type 1} → statement M
 commit-flags-spec =
     tie.close
     (tie.spec
-    Inv-loop μ-loop (λ c κs. search needs) (λ c. search needs) (λ c κs. search needs) (λ c κs. search needs) (λ c. search needs) (λ c. search needs) (λ c. search needs) loop-again returns)
+    Inv-loop μ-loop (λ c κs. search needs) (λ c. search needs) (λ c κs. search needs) (λ c κs. search needs) (λ c. search needs)
+    (λ c. search needs) (λ c. search needs) loop-again returns)

@@ -16,7 +16,8 @@ returns c = λ cs e.
     let start = c .before .before .before .before in
     rw (
       eq-eqb _ _ (sym (c .before .before .cell-at .ensures) ∙ c .before .if1 .taken),
-      between-number (start .args .n) (start .args .low) (commitOf (tagOf (rowAt 24 (start .args .i) (start .args .rows .now))) cs) (omega (arith, start .fits .low)),
+      between-number (start .args .n) (start .args .low) (commitOf (tagOf (rowAt 24 (start .args .i) (start .args .rows .now))) cs)
+          (omega (arith, start .fits .low)),
       ← e,
       lt-ltb _ _ (c .if2 .taken),
     )
@@ -27,7 +28,8 @@ returns-2 c = λ cs e.
     let start = c .before .before .before .before in
     rw (
       eq-eqb _ _ (sym (c .before .before .cell-at .ensures) ∙ c .before .if1 .taken),
-      between-number (start .args .n) (start .args .low) (commitOf (tagOf (rowAt 24 (start .args .i) (start .args .rows .now))) cs) (omega (arith, start .fits .low)),
+      between-number (start .args .n) (start .args .low) (commitOf (tagOf (rowAt 24 (start .args .i) (start .args .rows .now))) cs)
+          (omega (arith, start .fits .low)),
       ← e,
       le-ltb _ _ (c .if2 .left),
     )

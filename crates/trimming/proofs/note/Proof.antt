@@ -9,7 +9,8 @@ returns : tie.Need-returns
 returns c =
     let start = c .before .before .before .before in
     let a = start .args in
-    noted-newer (a .newest .now) (a .cell) (a .number) (a .low) (start .pre) (omega (arith, c .before .before .before .if1 .taken)) (omega (arith, c .before .before .if2 .taken)) (omega (arith, c .if3 .taken))
+    noted-newer (a .newest .now) (a .cell) (a .number) (a .low) (start .pre) (omega (arith, c .before .before .before .if1 .taken))
+    (omega (arith, c .before .before .if2 .taken)) (omega (arith, c .if3 .taken))
 
 returns-2 : tie.Need-returns-2
 returns-2 c = noted-same _ _ _ _ (c .before .before .before .before .pre) (λ g h. c .if3 .left)

@@ -47,8 +47,10 @@ loop-again c =
       c .note .ensures .size,
       simp length-set (loop .inv .1),
       again,
-      stored-more (λ k. numberOr (commitOf (tagOf (rowAt 24 k (a .rows .now))) cs)) (loop .numbers) (loop .i) (number .result) (omega arith) (loop .inv .3) right,
-      newest-more cs (a .low) (a .used) (a .rows .now) (loop .newest) _ (loop .i) (c .before .cell-at .result) (number .result) (omega (arith, start .fits .low)) (omega arith) (c .before .cell-at .ensures) right (c .note .ensures) (loop .inv .4),
+      stored-more (λ k. numberOr (commitOf (tagOf (rowAt 24 k (a .rows .now))) cs)) (loop .numbers) (loop .i) (number .result) (omega arith)
+          (loop .inv .3) right,
+      newest-more cs (a .low) (a .used) (a .rows .now) (loop .newest) _ (loop .i) (c .before .cell-at .result) (number .result)
+          (omega (arith, start .fits .low)) (omega arith) (c .before .cell-at .ensures) right (c .note .ensures) (loop .inv .4),
     )
 
 returns : tie.Need-returns Inv-loop μ-loop
@@ -56,12 +58,14 @@ returns c =
     let a = c .before .before .before .before .before .before .before .args in
     let loop = c .before .loop in (
       record { each = λ k h. loop .inv .3 k (omega arith) },
-      newest-end (rowsIn 8 (a .entries) (a .commits .now)) (a .low) (a .used) (a .rows .now) (loop .newest) (loop .i) (c .loop-test .left) (loop .inv .4),
+      newest-end (rowsIn 8 (a .entries) (a .commits .now)) (a .low) (a .used) (a .rows .now) (loop .newest) (loop .i) (c .loop-test .left)
+          (loop .inv .4),
     )
 
 pub note-rows-spec : {M : Type 1} → statement M
 note-rows-spec =
     tie.close
     (tie.spec
-    Inv-loop μ-loop (λ c κs. search needs) (λ c κs. search needs) loop-holds (λ c κs. search needs) (λ c κs. search needs) (λ c κs. search needs) (λ c. search needs)
+    Inv-loop μ-loop (λ c κs. search needs) (λ c κs. search needs) loop-holds (λ c κs. search needs) (λ c κs. search needs)
+    (λ c κs. search needs) (λ c. search needs)
     (λ c. search needs) (λ c κs. search needs) (λ c κs. search needs) (λ c. search needs) (λ c. search needs) loop-again returns)

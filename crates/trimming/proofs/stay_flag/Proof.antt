@@ -13,7 +13,8 @@ returns : tie.Need-returns
 returns c = λ cs numbers newest.
     let start = c .before .before .before in
     let a = start .args in
-    rw (stays-above (a .low) (rowsIn 24 (a .used) (a .rows .now)) cs (rowAt 24 (a .i) (a .rows .now)) _ (numbers .each (a .i) (start .pre .1 .1)) (c .if1 .taken))
+    rw (stays-above (a .low) (rowsIn 24 (a .used) (a .rows .now)) cs (rowAt 24 (a .i) (a .rows .now)) _
+    (numbers .each (a .i) (start .pre .1 .1)) (c .if1 .taken))
 
 returns-2 : tie.Need-returns-2
 returns-2 c = λ cs numbers newest.
@@ -21,7 +22,8 @@ returns-2 c = λ cs numbers newest.
     let a = start .args in
     let cell = c .before .before .before .cell-at in
     rw (
-      stays-newest (a .low) (rowsIn 24 (a .used) (a .rows .now)) cs (rowAt 24 (a .i) (a .rows .now)) _ (numbers .each (a .i) (start .pre .1 .1)) (cell .result) (cell .ensures)
+      stays-newest (a .low) (rowsIn 24 (a .used) (a .rows .now)) cs (rowAt 24 (a .i) (a .rows .now)) _
+          (numbers .each (a .i) (start .pre .1 .1)) (cell .result) (cell .ensures)
           (omega (arith, start .fits .low)) (c .before .before .before .before .if1 .left) (a .newest .now) newest (c .before .before .if2 .taken),
       lt-ltb (getD (a .numbers .now) (a .i) 0) (getD (a .newest .now) (cell .result) 0) (omega (arith, c .if3 .taken)),
     )
@@ -32,7 +34,8 @@ returns-3 c = λ cs numbers newest.
     let a = start .args in
     let cell = c .before .before .before .cell-at in
     rw (
-      stays-newest (a .low) (rowsIn 24 (a .used) (a .rows .now)) cs (rowAt 24 (a .i) (a .rows .now)) _ (numbers .each (a .i) (start .pre .1 .1)) (cell .result) (cell .ensures)
+      stays-newest (a .low) (rowsIn 24 (a .used) (a .rows .now)) cs (rowAt 24 (a .i) (a .rows .now)) _
+          (numbers .each (a .i) (start .pre .1 .1)) (cell .result) (cell .ensures)
           (omega (arith, start .fits .low)) (c .before .before .before .before .if1 .left) (a .newest .now) newest (c .before .before .if2 .taken),
       le-ltb (getD (a .numbers .now) (a .i) 0) (getD (a .newest .now) (cell .result) 0) (omega (arith, c .if3 .left)),
     )
@@ -43,7 +46,8 @@ returns-4 c = λ cs numbers newest.
     let a = start .args in
     let cell = c .before .before .before .cell-at in
     rw (
-      stays-up-to (a .low) (rowsIn 24 (a .used) (a .rows .now)) cs (rowAt 24 (a .i) (a .rows .now)) _ (numbers .each (a .i) (start .pre .1 .1)) (cell .result) (cell .ensures)
+      stays-up-to (a .low) (rowsIn 24 (a .used) (a .rows .now)) cs (rowAt 24 (a .i) (a .rows .now)) _
+          (numbers .each (a .i) (start .pre .1 .1)) (cell .result) (cell .ensures)
           (omega (arith, start .fits .low)) (c .before .before .before .before .if1 .left),
       sym (c .before .any-later .ensures cs numbers) ∙ c .if4 .taken,
     )
@@ -54,7 +58,8 @@ returns-5 c = λ cs numbers newest.
     let a = start .args in
     let cell = c .before .before .before .cell-at in
     rw (
-      stays-up-to (a .low) (rowsIn 24 (a .used) (a .rows .now)) cs (rowAt 24 (a .i) (a .rows .now)) _ (numbers .each (a .i) (start .pre .1 .1)) (cell .result) (cell .ensures)
+      stays-up-to (a .low) (rowsIn 24 (a .used) (a .rows .now)) cs (rowAt 24 (a .i) (a .rows .now)) _
+          (numbers .each (a .i) (start .pre .1 .1)) (cell .result) (cell .ensures)
           (omega (arith, start .fits .low)) (c .before .before .before .before .if1 .left),
       sym (c .before .any-later .ensures cs numbers) ∙ c .if4 .left,
     )

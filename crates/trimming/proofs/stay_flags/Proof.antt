@@ -13,7 +13,8 @@ use Rattle.trimming.proofs.stay_flags.Tie as tie
 
 abbrev Inv-loop : tie.InvT-loop
 Inv-loop rows used commits entries low newest numbers flags₀ i₀ flags i =
-    (length flags ≡ 1024) × ((k : ℕ) → k < i → getD flags k 0 ≡ (if stays low (rowsIn 24 used rows) (rowsIn 8 entries commits) (rowAt 24 k rows) then 1 else 0))
+    (length flags ≡ 1024) × ((k : ℕ) → k < i → getD flags k 0 ≡ (if stays low (rowsIn 24 used rows) (rowsIn 8 entries commits)
+    (rowAt 24 k rows) then 1 else 0))
 
 abbrev μ-loop : tie.MeasureT-loop
 μ-loop rows used commits entries low newest numbers flags₀ i₀ flags i = used - i
@@ -31,7 +32,8 @@ loop-again c =
     let ds = rowsIn 24 (a .used) (a .rows .now) in
     let cs = rowsIn 8 (a .entries) (a .commits .now) in (
       simp length-set (loop .inv .0),
-      stored-more (λ k. if stays (a .low) ds cs (rowAt 24 k (a .rows .now)) then 1 else 0) (loop .flags) (loop .i) (c .stay-flag .result) (omega arith) (loop .inv .1)
+      stored-more (λ k. if stays (a .low) ds cs (rowAt 24 k (a .rows .now)) then 1 else 0) (loop .flags) (loop .i) (c .stay-flag .result)
+          (omega arith) (loop .inv .1)
           (c .stay-flag .ensures cs (noted .ensures .0) (noted .ensures .1)),
     )
 
@@ -42,4 +44,5 @@ pub stay-flags-spec : {M : Type 1} → statement M
 stay-flags-spec =
     tie.close
     (tie.spec
-    Inv-loop μ-loop note-rows-requires (λ c. search needs) (λ c κs. search needs) (λ c. search needs) (λ c. search needs) (λ c. search needs) loop-again returns)
+    Inv-loop μ-loop note-rows-requires (λ c. search needs) (λ c κs. search needs) (λ c. search needs) (λ c. search needs)
+    (λ c. search needs) loop-again returns)

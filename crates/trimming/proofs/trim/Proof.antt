@@ -27,11 +27,13 @@ returns-2 c =
     let first = c .before .before .before .before .before .before .before .before .before .before .close-up in
     let marks = c .before .before .before .before .before .commit-flags in
     let second = c .before .before .close-up2 in
-    trim-leaves (a .low) (a .used) (a .entries) (a .rows .now) (a .commits .now) (stay .result) (marks .result) (first .last .0) (second .last .0) (first .result) (second .result)
+    trim-leaves (a .low) (a .used) (a .entries) (a .rows .now) (a .commits .now) (stay .result) (marks .result) (first .last .0)
+    (second .last .0) (first .result) (second .result)
     (start .pre .0) (stay .ensures) (first .ensures) (marks .ensures) (second .ensures)
 
 pub trim-spec : {M : Type 1} → statement M
 trim-spec =
     tie.close
     (tie.spec
-    returns (λ c κs. search needs) (λ c κs. search needs) commit-flags-requires (λ c κs. search needs) (λ c. search needs) (λ c. search needs) returns-2)
+    returns (λ c κs. search needs) (λ c κs. search needs) commit-flags-requires (λ c κs. search needs) (λ c. search needs)
+    (λ c. search needs) returns-2)

@@ -13,7 +13,8 @@ use Rattle.writes.proofs.limit_reached.Tie as tie
 returns : tie.Need-returns
 returns c =
     let a = c .before .before .args in
-    sym (lt-leb (a .limit) (cellsOf (a .number) (rowsIn 24 (a .used) (a .rows .now))) (omega (arith, cells-fewer (a .number) (rowsIn 24 (a .used) (a .rows .now)), c .before .before .pre .1)))
+    sym (lt-leb (a .limit) (cellsOf (a .number) (rowsIn 24 (a .used) (a .rows .now)))
+    (omega (arith, cells-fewer (a .number) (rowsIn 24 (a .used) (a .rows .now)), c .before .before .pre .1)))
 
 count-cells-requires : tie.Need-count-cells-requires
 count-cells-requires c κs = search needs

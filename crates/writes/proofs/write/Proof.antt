@@ -32,7 +32,8 @@ returns-2 : tie.Need-returns-2
 unfolding write
 returns-2 c =
     let a = c .before .before .before .before .before .before .before .args in
-    rw (c .no-figure2 .ensures) (refuses _ _ _ _ _ (sym (c .before .before .before .fit .ensures) ∙ not-false _ (c .before .before .if1 .left)) (rw (le-leb clients (a .client) (omega arith))))
+    rw (c .no-figure2 .ensures) (refuses _ _ _ _ _ (sym (c .before .before .before .fit .ensures) ∙ not-false _
+    (c .before .before .if1 .left)) (rw (le-leb clients (a .client) (omega arith))))
 
 no-figure-requires-3 : tie.Need-no-figure-requires-3
 no-figure-requires-3 c κs = search needs
@@ -41,7 +42,8 @@ returns-3 : tie.Need-returns-3
 unfolding write
 returns-3 c =
     let a = c .before .before .before .before .before .before .before .before .args in
-    rw (c .no-figure3 .ensures) (refuses _ _ _ _ _ (sym (c .before .before .before .before .fit .ensures) ∙ not-false _ (c .before .before .before .if1 .left)) (rw (lt-leb clients (a .client) (omega arith), le-leb 1024 (a .cell) (omega arith))))
+    rw (c .no-figure3 .ensures) (refuses _ _ _ _ _ (sym (c .before .before .before .before .fit .ensures) ∙ not-false _
+    (c .before .before .before .if1 .left)) (rw (lt-leb clients (a .client) (omega arith), le-leb 1024 (a .cell) (omega arith))))
 
 no-figure-requires-4 : tie.Need-no-figure-requires-4
 no-figure-requires-4 c κs = search needs
@@ -50,7 +52,12 @@ returns-4 : tie.Need-returns-4
 unfolding write
 returns-4 c =
     let a = c .before .before .before .before .before .before .before .before .before .args in
-    rw (c .no-figure4 .ensures) (refuses _ _ _ _ _ (sym (c .before .before .before .before .before .fit .ensures) ∙ not-false _ (c .before .before .before .before .if1 .left)) (rw (lt-leb clients (a .client) (omega arith), lt-leb 1024 (a .cell) (omega arith), ne-eqb (length (a .value .now)) 16 (c .before .if4 .taken))))
+    rw (c .no-figure4 .ensures) (refuses _ _ _ _ _ (sym (c .before .before .before .before .before .fit .ensures) ∙ not-false _
+    (c .before .before .before .before .if1 .left)) (rw (
+      lt-leb clients (a .client) (omega arith),
+      lt-leb 1024 (a .cell) (omega arith),
+      ne-eqb (length (a .value .now)) 16 (c .before .if4 .taken),
+    )))
 
 mul-number : tie.Need-mul-number
 mul-number c = search needs
@@ -66,7 +73,15 @@ unfolding write decode
 returns-5 c =
     let a = c .before .before .before .before .before .before .before .before .before .before .before .args in
     let s = a .store in
-    rw (c .no-figure5 .ensures) (refuses _ _ _ _ _ (sym (c .before .before .before .before .before .before .before .fit .ensures) ∙ not-false _ (c .before .before .before .before .before .before .if1 .left)) (rw (lt-leb clients (a .client) (omega arith), lt-leb 1024 (a .cell) (omega arith), eq-eqb (length (a .value .now)) 16 (omega arith), eq-eqb (getD (s .number) (a .client) 0) 0 (omega arith))))
+    rw (c .no-figure5 .ensures) (refuses _ _ _ _ _ (sym (c .before .before .before .before .before .before .before .fit .ensures) ∙
+    not-false _ (c .before .before .before .before .before .before .if1 .left))
+    (rw (
+      lt-leb clients (a .client) (omega arith),
+      lt-leb 1024 (a .cell) (omega arith),
+      eq-eqb (length (a .value .now)) 16
+          (omega arith),
+      eq-eqb (getD (s .number) (a .client) 0) 0 (omega arith),
+    )))
 
 mul-if6 : tie.Need-mul-if6
 mul-if6 c = search needs
@@ -82,13 +97,26 @@ unfolding write decode
 returns-6 c =
     let a = c .before .before .before .before .before .before .before .before .before .before .before .before .before .args in
     let s = a .store in
-    rw (c .no-figure6 .ensures) (refuses _ _ _ _ _ (sym (c .before .before .before .before .before .before .before .before .before .fit .ensures) ∙ not-false _ (c .before .before .before .before .before .before .before .before .if1 .left)) (rw (lt-leb clients (a .client) (omega arith), lt-leb 1024 (a .cell) (omega arith), eq-eqb (length (a .value .now)) 16 (omega arith), ne-eqb (getD (s .number) (a .client) 0) 0 (c .before .before .before .if5 .left), ne-eqb (getD (s .stage) (a .client) 0) 0 (c .before .if6 .taken))))
+    rw (c .no-figure6 .ensures)
+    (refuses _ _ _ _ _ (sym (c .before .before .before .before .before .before .before .before .before .fit .ensures) ∙ not-false _
+    (c .before .before .before .before .before .before .before .before .if1 .left))
+    (rw (
+      lt-leb clients (a .client) (omega arith),
+      lt-leb 1024 (a .cell) (omega arith),
+      eq-eqb (length (a .value .now)) 16
+          (omega arith),
+      ne-eqb (getD (s .number) (a .client) 0) 0 (c .before .before .before .if5 .left),
+      ne-eqb
+          (getD (s .stage) (a .client) 0) 0 (c .before .if6 .taken),
+    )))
 
 cast-used : tie.Need-cast-used
 cast-used c = search needs
 
 own-row-requires : tie.Need-own-row-requires
-own-row-requires c κs = let f = fit-of _ _ _ (sym (c .before .before .before .before .before .before .before .before .before .before .fit .ensures) ∙ not-false _ (c .before .before .before .before .before .before .before .before .before .if1 .left)) in omega arith
+own-row-requires c κs = let f = fit-of _ _ _
+    (sym (c .before .before .before .before .before .before .before .before .before .before .fit .ensures) ∙ not-false _
+    (c .before .before .before .before .before .before .before .before .before .if1 .left)) in omega arith
 
 enum-known-own : tie.Need-enum-known-own
 enum-known-own c = search needs
@@ -115,18 +143,28 @@ same-length c = search needs
 
 returns-7 : tie.Need-returns-7
 returns-7 c =
-    goes _ _ _ _ (sym (c .before .before .before .before .before .before .before .before .before .before .before .before .before .before .before .before .before .before .fit .ensures) ∙ not-false _ (c .before .before .before .before .before .before .before .before .before .before .before .before .before .before .before .before .before .if1 .left))
+    goes _ _ _ _ (sym
+    (c .before .before .before .before .before .before .before .before .before .before .before .before .before .before .before .before .before .before .fit .ensures) ∙ not-false _ (c .before .before .before .before .before .before .before .before .before .before .before .before .before .before .before .before .before .if1 .left))
     (c .before .before .replace-row .ensures
-    ∙ ap (encode _ _ _) (write-stored _ _ _ _ _ (omega arith) (omega arith) (c .before .before .before .before .before .before .before .before .before .before .before .before .if5 .left) (c .before .before .before .before .before .before .before .before .before .before .if6 .left) _ _ (omega arith) (sym (own-row _ _ _ _ (c .before .before .before .before .before .before .before .own-row .ensures) (c .before .before .before .before .before .own .given .1)))))
+    ∙ ap (encode _ _ _) (write-stored _ _ _ _ _ (omega arith) (omega arith)
+    (c .before .before .before .before .before .before .before .before .before .before .before .before .if5 .left)
+    (c .before .before .before .before .before .before .before .before .before .before .if6 .left) _ _ (omega arith)
+    (sym (own-row _ _ _ _ (c .before .before .before .before .before .before .before .own-row .ensures)
+    (c .before .before .before .before .before .own .given .1)))))
 
 same-length-2 : tie.Need-same-length-2
 same-length-2 c = search needs
 
 returns-8 : tie.Need-returns-8
 returns-8 c =
-    goes _ _ _ _ (sym (c .before .before .before .before .before .before .before .before .before .before .before .before .before .before .before .before .before .before .fit .ensures) ∙ not-false _ (c .before .before .before .before .before .before .before .before .before .before .before .before .before .before .before .before .before .if1 .left))
+    goes _ _ _ _ (sym
+    (c .before .before .before .before .before .before .before .before .before .before .before .before .before .before .before .before .before .before .fit .ensures) ∙ not-false _ (c .before .before .before .before .before .before .before .before .before .before .before .before .before .before .before .before .before .if1 .left))
     (c .before .before .add-row .ensures
-    ∙ ap (encode _ _ _) (write-stored _ _ _ _ _ (omega arith) (omega arith) (c .before .before .before .before .before .before .before .before .before .before .before .before .if5 .left) (c .before .before .before .before .before .before .before .before .before .before .if6 .left) _ _ (omega arith) (sym (own-rows _ _ _ _ (c .before .before .before .before .before .before .before .own-row .ensures) (c .before .before .before .before .before .own2 .given .1) .0))))
+    ∙ ap (encode _ _ _) (write-stored _ _ _ _ _ (omega arith) (omega arith)
+    (c .before .before .before .before .before .before .before .before .before .before .before .before .if5 .left)
+    (c .before .before .before .before .before .before .before .before .before .before .if6 .left) _ _ (omega arith)
+    (sym (own-rows _ _ _ _ (c .before .before .before .before .before .before .before .own-row .ensures)
+    (c .before .before .before .before .before .own2 .given .1) .0))))
 
 pub write-spec : {M : Type 1} → statement M
 write-spec =
