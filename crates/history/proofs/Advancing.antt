@@ -1,4 +1,4 @@
--- Advance on an image is, by the view, what Took.antt says of it, step by step. Three steps have a refusal that a store grown from set-up never
+-- Advance on an image is, by the view, what Transition.antt says of it, step by step. Three steps have a refusal that a store grown from set-up never
 -- meets: R at its top, C at its top, a full committed buffer (`Ready` says that there is room; Meets.antt and Room.antt prove it).
 -- Assumes nothing.
 use Prim.Native.Nat.{ℕ, _+_, _^_, _≤_, _<_}

@@ -1,6 +1,6 @@
 -- Document 01's promises on every list of calls, for every set-up.
 -- Demand 3: between two calls the image is well-formed, its view and the plain table satisfy the invariant, and there is room for the numbers
--- and rows to come (`Reached`). A call on such an image does one of the things of Took.antt, so its answer is right and what it leaves is such an
+-- and rows to come (`Reached`). A call on such an image does one of the things of Transition.antt, so its answer is right and what it leaves is such an
 -- image again; on the record and the buffers the call does the same (`crossed`). After a refused set-up no client is open, and the refusal 2
 -- is right of a closed client.
 -- Assumes nothing.

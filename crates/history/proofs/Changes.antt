@@ -134,7 +134,7 @@ module _ (s : State) (a : ℕ) where
       arm 13 _ _ _ _ (omega arith) (omega arith) (omega arith) (off (omega arith) refl) (off (omega arith) refl) (off (omega arith) (λ _ z. z))
       (off (omega arith) (λ x z. clear-fewer a (s .cl a .cwait) x z))
 
--- ---- from Took
+-- ---- from Transition
 
 module _ (s : State) (idle : (b : ℕ) → s .cl b .number ≡ 0 → s .cl b .stage ≡ 0) where
   -- nothing changes but the client, up to stage 12

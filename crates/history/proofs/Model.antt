@@ -1,6 +1,6 @@
 -- A device of the proofs, not something to believe: the store with its rows as records, its clients as a function and its waiting lists as
 -- tests, and the ways in which a call may change it. There is no second account of the calls: an image is seen as such a state (View.antt), and
--- each call on the image is shown to be one of the changes below (Took.antt names them, with the tests that the call has passed).
+-- each call on the image is shown to be one of the changes below (Transition.antt names them, with the tests that the call has passed).
 -- The searches are decisions (`Dec`), so that the proofs receive the facts themselves.
 -- Assumes nothing.
 use Prim.Native.Nat.{ℕ, zero, suc, _-_, min, _≤_, _<_}

@@ -1,4 +1,4 @@
--- Whatever a call does (Took.antt), its answer is right by the plain table, and the invariant holds afterwards; and it holds after set-up.
+-- Whatever a call does (Transition.antt), its answer is right by the plain table, and the invariant holds afterwards; and it holds after set-up.
 -- W never falls, and stays a number of 32 bits: so each number that Begin answers is the next one. No call is refused with 2.
 -- Assumes nothing.
 use Prim.Native.Nat.{ℕ, suc, _≤_}

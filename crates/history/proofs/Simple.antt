@@ -1,4 +1,4 @@
--- Begin, Read, Abandon and Free on an image are, by the view, what Took.antt says of them: the client opened, the value found, the client
+-- Begin, Read, Abandon and Free on an image are, by the view, what Transition.antt says of them: the client opened, the value found, the client
 -- closed with its rows gone, the free figure. Each call is its chain of tests, then one equation on the view.
 -- Assumes nothing.
 use Prim.Native.Nat.{ℕ, _+_, _≤_, _<_}

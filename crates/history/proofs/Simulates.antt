@@ -1,4 +1,4 @@
--- A call on an image does one of the things of Took.antt, by the view. `Simulates i q o` says so of an outcome o; a chain of tests is walked by
+-- A call on an image does one of the things of Transition.antt, by the view. `Simulates i q o` says so of an outcome o; a chain of tests is walked by
 -- `simulates-if`, one test at a time, and at its end `simulates` takes the model's change and the equation that the view of the outcome is that change.
 -- Assumes nothing.
 use Prim.Native.Nat.{ℕ, _≤_}

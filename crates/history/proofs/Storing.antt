@@ -1,4 +1,4 @@
--- Write on an image is, by the view, what Took.antt says of it: the first row of the transaction and the cell has its value replaced, or a row
+-- Write on an image is, by the view, what Transition.antt says of it: the first row of the transaction and the cell has its value replaced, or a row
 -- goes in behind the last. The cell limit and the free rows decide only whether the call is refused; a cell more is counted by the rows and by the
 -- table of what the client wrote alike.
 -- Assumes nothing.

@@ -1,4 +1,4 @@
--- Trim on an image is, by the view, what Took.antt says of it: low is the same number on both sides, and the same rows go.
+-- Trim on an image is, by the view, what Transition.antt says of it: low is the same number on both sides, and the same rows go.
 -- Assumes nothing.
 use Prim.Native.Nat.{ℕ, zero, suc, _-_}
 use mathlib.Core.Path.{_≡_, refl, sym, ap, _∙_}

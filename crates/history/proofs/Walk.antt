@@ -1,4 +1,4 @@
--- Every call on an image does, by the view, one of the things of Took.antt; and the image after set-up, by the view.
+-- Every call on an image does, by the view, one of the things of Transition.antt; and the image after set-up, by the view.
 -- Assumes nothing.
 use Prim.Native.Nat.{ℕ, _≤_}
 use mathlib.Core.Path.{_≡_, fun-ext}

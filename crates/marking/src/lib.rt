@@ -13,7 +13,7 @@ ghost use Rattle.spec.specs.Marked.{Marks, Worked};
 ghost use Rattle.marking.specs.Inner.{SoFar, Judged, Used};
 use trimming::Remaining;
 
-// ---- from the newest: see specs/Served.antt
+// ---- from the newest: see crate spec, specs/Marked.antt
 
 // Committed row j, where the rows behind it are done. Its data rows of cells that are marked already go, and its
 // other cells are marked with j + 1; a row numbered above low marks nothing. False where it comes to a cell above

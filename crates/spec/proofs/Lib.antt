@@ -5,7 +5,7 @@ pub mod AccordFit
 pub mod AccordLayout
 pub mod AccordOrderly
 pub mod AccordMarked
-pub mod AccordRight
+pub mod AccordDemand
 pub mod AccordQueues
 pub mod AccordReads
 pub mod AccordRefusals
