@@ -293,8 +293,8 @@ module _ (i : Image) (ready : Ready i) (k : ℕ) (h : k < clients) where
         (λ t. absurd (omega (arith, leb-true (i .rows) (length (i .commitRows)) t, ready .room k o e)))
         (λ _. simulates i (Advance k) _ (made-commit e) (at11 k h o (at e)))
 
-    step-does : (g : ℕ) → stageOf i k ≡ g → g ≤ 13 → Simulates i (Advance k) (getD steps g noStep k i)
-    step-does g e l =
+    step-simulates : (g : ℕ) → stageOf i k ≡ g → g ≤ 13 → Simulates i (Advance k) (getD steps g noStep k i)
+    step-simulates g e l =
         by-cases (ℕ-discrete g 0) (λ p. rw p (enters (e ∙ p))) (λ n0.
         by-cases (ℕ-discrete g 1) (λ p. rw p (requested (e ∙ p))) (λ n1.
         by-cases (ℕ-discrete g 2) (λ p. rw p (simulates i (Advance k) (st.goOn 3 k i) (goOn-view 3) (at2 k h o (at (e ∙ p))))) (λ n2.
@@ -311,10 +311,10 @@ module _ (i : Image) (ready : Ready i) (k : ℕ) (h : k < clients) where
         by-cases (ℕ-discrete g 13) (λ p. rw p (simulates i (Advance k) (st.leaveRequests k i) leave-requests (at13 k h o (at (e ∙ p))))) (λ n13.
         absurd (between g l n0 n1 n2 n3 n4 n5 n6 n7 n8 n9 n10 n11 n12 n13)))))))))))))))
 
-pub advance-does : (i : Image) (k : ℕ) → Ready i → Simulates i (Advance k) (st.advance k i)
+pub advance-simulates : (i : Image) (k : ℕ) → Ready i → Simulates i (Advance k) (st.advance k i)
 unfolding st.advance
-advance-does i k ready =
+advance-simulates i k ready =
     simulates-if i (Advance k) (leb clients k)
     (λ h. record { did = no-advance k noClient (omega arith) (past-number i (ready .fine .tidy) k (leb-true clients k h)) }) (λ h.
     simulates-if i (Advance k) (not (isOpen i k)) (λ e. record { did = no-advance k notOpen (omega arith) (not-open i k e) }) (λ o.
-    step-does i ready k (leb-false clients k h) (is-open i k o) (stageOf i k) refl (ready .fine .tidy .stage .each k)))
+    step-simulates i ready k (leb-false clients k h) (is-open i k o) (stageOf i k) refl (ready .fine .tidy .stage .each k)))

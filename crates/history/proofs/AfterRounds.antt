@@ -9,7 +9,7 @@ use native.Mathlib.Omega.{arith}
 use lib.ListN.{length}
 use Rattle.spec.specs.Image.{Image}
 use Rattle.spec.specs.Run.{Call}
-use Rattle.history.proofs.AllCalls.{told-by}
+use Rattle.history.proofs.AllCalls.{observed-by}
 use Rattle.history.specs.Rounds.{Below, AllBelow, serves}
 use Rattle.history.proofs.Grown.{next, client, Grown, grows}
 
@@ -25,7 +25,7 @@ runs s (r ∷ rs) = runs (run s r) rs
 
 abbrev pub meets : ℕ → Image → List Call → Bool
 meets b s [] = false
-meets b s (c ∷ l) = serves b c (told-by c s) || meets b (next s c) l
+meets b s (c ∷ l) = serves b c (observed-by c s) || meets b (next s c) l
 
 abbrev pub AllRounds : Image → List (List Call) → Type 0
 AllRounds s [] = Unit {0}
@@ -45,7 +45,7 @@ Stable n X = (s : Image) (c : Call) → Grown n s → Below n c → X s → X (n
 
 -- the call that serves client b turns X into Y
 abbrev pub Hit : ℕ → ℕ → (Image → Type 0) → (Image → Type 0) → Type 0
-Hit n b X Y = (s : Image) (c : Call) → Grown n s → Below n c → X s → serves b c (told-by c s) ≡ true → Y (next s c)
+Hit n b X Y = (s : Image) (c : Call) → Grown n s → Below n c → X s → serves b c (observed-by c s) ≡ true → Y (next s c)
 
 module _ {n : ℕ} where
   run-grown : (s : Image) (l : List Call) → Grown n s → AllBelow n l → Grown n (run s l)
@@ -97,9 +97,9 @@ module _ {n : ℕ} where
       → (s : Image) (l : List Call) → Grown n s → AllBelow n l → X s → meets b s l ≡ true → Y (run s l)
   met b kx ky hit s [] g o x d = absurd (false≢true d)
   met {X} {Y} b kx ky hit s (c ∷ l) g o x d =
-      go (serves b c (told-by c s)) refl d (met b kx ky hit (next s c) l (grows s c g (o .0)) (o .1) (kx s c g (o .0) x))
+      go (serves b c (observed-by c s)) refl d (met b kx ky hit (next s c) l (grows s c g (o .0)) (o .1) (kx s c g (o .0) x))
     where
-      go : (y : Bool) → serves b c (told-by c s) ≡ y → (y || meets b (next s c) l) ≡ true
+      go : (y : Bool) → serves b c (observed-by c s) ≡ y → (y || meets b (next s c) l) ≡ true
           → (meets b (next s c) l ≡ true → Y (run (next s c) l)) → Y (run (next s c) l)
       go true e d rest = run-keeps ky (next s c) l (grows s c g (o .0)) (o .1) (hit s c g (o .0) x e)
       go false e d rest = rest d

@@ -38,7 +38,7 @@ use Rattle.history.proofs.Room.{Room-state, stays, room-left, start-roo
 use Rattle.history.proofs.View.{view, number-at, stage-at, commit-at, W-at, R-at, C-at, used-at, entries-at, free-at}
 use Rattle.history.proofs.Simulates.{observedOutcome}
 use Rattle.history.proofs.Advancing.{Ready}
-use Rattle.history.proofs.Walk.{perform-does, empty-view}
+use Rattle.history.proofs.Walk.{perform-simulates, empty-view}
 use Rattle.history.proofs.Erase.{erase, erase-empty, feeds, right}
 
 -- ---- what holds between two calls; w is the next number to be issued
@@ -81,30 +81,30 @@ module _ {bounds : Bounds} {w : ℕ} {i : Image} {p : Plain} (g : Reached bounds
 -- ---- one call
 
 -- what a call on the image tells
-abbrev pub told-by : (q : Call) → Image → Answer (Observed q)
-told-by q i = observeAnswer q (perform q i .image .dataRows) (perform q i .answer)
+abbrev pub observed-by : (q : Call) → Image → Answer (Observed q)
+observed-by q i = observeAnswer q (perform q i .image .dataRows) (perform q i .answer)
 
 module _ {bounds : Bounds} {w : ℕ} {i : Image} {p : Plain} (g : Reached bounds w i p) (q : Call) where
-  pub took : Transition (view i) q (observedOutcome q (perform q i))
-  took = perform-does q i (ready g) (omega (arith, within g, W-at i)) .did
+  pub transition-of : Transition (view i) q (observedOutcome q (perform q i))
+  transition-of = perform-simulates q i (ready g) (omega (arith, within g, W-at i)) .did
 
-  pub good-next : Reached bounds (nextAfter q (told-by q i) w) (perform q i .image) (updateₚ p q (told-by q i))
+  pub good-next : Reached bounds (nextAfter q (observed-by q i) w) (perform q i .image) (updateₚ p q (observed-by q i))
   good-next = record {
     fine = perform-kept q i (g .fine) .fine;
-    inv = good (g .inv) took .1;
-    under = keeps (view i) (g .under) took;
-    room = stays (g .inv) (g .room) took;
-    numbers = numbered (g .numbers) took;
+    inv = good (g .inv) transition-of .1;
+    under = keeps (view i) (g .under) transition-of;
+    room = stays (g .inv) (g .room) transition-of;
+    numbers = numbered (g .numbers) transition-of;
   }
 
-  right-own : own.Rightₚ bounds (view i .W) p q (told-by q i) (m.freeₛ (view (perform q i .image)))
-  right-own = good (g .inv) took .0
+  right-own : own.Rightₚ bounds (view i .W) p q (observed-by q i) (m.freeₛ (view (perform q i .image)))
+  right-own = good (g .inv) transition-of .0
 
-  right-now : Right bounds w (erase p) q (told-by q i) (Answered (m.freeₛ (view (perform q i .image))))
-  right-now = right bounds w (view i .W) (g .numbers .issued) p q (told-by q i) (m.freeₛ (view (perform q i .image))) right-own
+  right-now : Right bounds w (erase p) q (observed-by q i) (Answered (m.freeₛ (view (perform q i .image))))
+  right-now = right bounds w (view i .W) (g .numbers .issued) p q (observed-by q i) (m.freeₛ (view (perform q i .image))) right-own
 
-  pub fed : update q (told-by q i) (erase p) ≡ erase (updateₚ p q (told-by q i))
-  fed = feeds bounds (view i .W) p q (told-by q i) (m.freeₛ (view (perform q i .image))) right-own
+  pub fed : update q (observed-by q i) (erase p) ≡ erase (updateₚ p q (observed-by q i))
+  fed = feeds bounds (view i .W) p q (observed-by q i) (m.freeₛ (view (perform q i .image))) right-own
 
 free-answer : (i : Image) → perform Free i .answer ≡ Answered (m.freeₛ (view i))
 unfolding free
@@ -119,8 +119,8 @@ module _ (i : Image) (h : Wellformed i) (q : Call) where
   next-fine : Wellformed next
   next-fine = perform-kept q i h .fine
 
-  pub same-told : observed q (encoded i) ≡ told-by q i
-  same-told =
+  pub same-observed : observed q (encoded i) ≡ observed-by q i
+  same-observed =
       ap (λ (a : After (Result q)). observeAnswer q (rowsIn 24 (a .memory .store .used) (a .memory .dataBytes)) (a .answer)) (crossed i h q)
       ∙ ap (λ (ds : List Row). observeAnswer q ds (perform q i .answer)) (used-rows next next-fine)
 
@@ -137,9 +137,9 @@ all-right : {bounds : Bounds} (qs : List Call) (w : ℕ) (i : Image) (p : Plain)
 all-right [] w i p g = tt
 all-right {bounds} (q ∷ qs) w i p g =
     let h = g .fine in
-    let e = same-told i h q in
+    let e = same-observed i h q in
     let j : Image = perform q i .image in
-    let a : Answer (Observed q) = told-by q i in (
+    let a : Answer (Observed q) = observed-by q i in (
       subst (λ (x : Answer (Observed q)). Right bounds w (erase p) q x (step Free (step q (encoded i) .memory) .answer)) (sym e)
           (subst (λ (x : Answer ℕ). Right bounds w (erase p) q a x) (sym (free-next i h q)) (right-now g q)),
       subst (λ (x : Answer (Observed q)). RightRun bounds (nextAfter q x w) (update q x (erase p)) (step q (encoded i) .memory) qs) (sym e)
@@ -184,25 +184,25 @@ refused-number (Abandon k) w = refl
 refused-number Trim w = refl
 refused-number Free w = refl
 
-refused-told : (q : Call) → update q (Refused unfit) blank ≡ blank
+refused-observed : (q : Call) → update q (Refused unfit) blank ≡ blank
 unfolding update
-refused-told q = refl
+refused-observed q = refl
 
-pub refused-tells : (d c : List ℕ) (q : Call) → observed q (unused d c) ≡ Refused unfit
-refused-tells d c q = ap (λ (a : After (Result q)). observeAnswer q (rowsIn 24 (a .memory .store .used) (a .memory .dataBytes)) (a .answer))
+pub all-observe-refused : (d c : List ℕ) (q : Call) → observed q (unused d c) ≡ Refused unfit
+all-observe-refused d c q = ap (λ (a : After (Result q)). observeAnswer q (rowsIn 24 (a .memory .store .used) (a .memory .dataBytes)) (a .answer))
     (refused-call d c q)
 
 refused-all : (n : Bounds) (w : ℕ) (d c : List ℕ) (qs : List Call) → RightRun n w blank (unused d c) qs
 refused-all n w d c [] = tt
 refused-all n w d c (q ∷ qs) =
     let e = refused-call d c q in
-    let f = refused-tells d c q in (
+    let f = all-observe-refused d c q in (
       subst (λ (x : Answer (Observed q)). Right n w blank q x (step Free (step q (unused d c) .memory) .answer)) (sym f) (refused-right n w q _),
       subst (λ (x : Answer (Observed q)). RightRun n (nextAfter q x w) (update q x blank) (step q (unused d c) .memory) qs) (sym f)
           (subst (λ (x : Memory). RightRun n (nextAfter q (Refused unfit) w) (update q (Refused unfit) blank) x qs)
           (sym (ap (λ (x : After (Result q)). x .memory) e))
           (subst (λ (x : ℕ). RightRun n x (update q (Refused unfit) blank) (unused d c) qs) (sym (refused-number q w))
-          (subst (λ (x : Table). RightRun n w x (unused d c) qs) (sym (refused-told q)) (refused-all n w d c qs)))),
+          (subst (λ (x : Table). RightRun n w x (unused d c) qs) (sym (refused-observed q)) (refused-all n w d c qs)))),
     )
 
 -- ---- every set-up
@@ -245,7 +245,7 @@ fit-now {bounds} {w} {i} {p} g q =
     let e = crossed i (g .fine) q in
     record {
       after = subst (λ (x : After (Result q)). Fit (x .memory)) (sym e) (fits-whole (perform q i .image) (good-next g q .fine));
-      answer = λ r. never-2 (took g q) (ap (observeAnswer q (perform q i .image .dataRows)) (sym (ap (λ (x : After (Result q)). x .answer) e) ∙ r));
+      answer = λ r. never-2 (transition-of g q) (ap (observeAnswer q (perform q i .image .dataRows)) (sym (ap (λ (x : After (Result q)). x .answer) e) ∙ r));
     }
 
 fit-all : {bounds : Bounds} (qs : List Call) (w : ℕ) (i : Image) (p : Plain) → Reached bounds w i p → AllFit (encoded i) qs

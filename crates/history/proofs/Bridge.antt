@@ -54,15 +54,15 @@ module _ (i : Image) (h : Wellformed i) where
       (known-all (i .clients .stage) clients (h .tidy .stage .each))
 
   -- and shows that image
-  seen-whole : decode (encoded i .store) (encoded i .dataBytes) (encoded i .commitBytes) ≡ i
+  decode-encoded : decode (encoded i .store) (encoded i .dataBytes) (encoded i .commitBytes) ≡ i
   unfolding decode encoded storeOf
-  seen-whole = rw (rows-spread 24 (i .rows) (i .dataRows) (h .dataWide), rows-spread 8 (i .rows) (i .commitRows) (h .commitWide))
+  decode-encoded = rw (rows-spread 24 (i .rows) (i .dataRows) (h .dataWide), rows-spread 8 (i .rows) (i .commitRows) (h .commitWide))
 
   -- what a call makes of it, laid out in its place, is the call's image laid out
-  laid-out : {A : Type 0} (o : Outcome A) → Kept i o
+  encode-encoded : {A : Type 0} (o : Outcome A) → Kept i o
       → encode (encoded i .store) (encoded i .dataBytes) (encoded i .commitBytes) o ≡ with (encoded (o .image)) (o .answer)
   unfolding encode encoded storeOf
-  laid-out o k =
+  encode-encoded o k =
       let d : length (o .image .dataRows) ≤ i .rows = rw (k .size) at (k .fine .dataFit) in
       let c : length (o .image .commitRows) ≤ i .rows = rw (k .size) at (k .fine .commitFit) in
       rw (
@@ -74,7 +74,7 @@ module _ (i : Image) (h : Wellformed i) where
   bridge-call : {A : Type 0} (f : Image → Outcome A) → Kept i (f i)
       → onBytes f (encoded i .store) (encoded i .dataBytes) (encoded i .commitBytes) ≡ with (encoded (f i .image)) (f i .answer)
   unfolding onBytes
-  bridge-call f k = rw (fits-whole, seen-whole) (laid-out (f i) k)
+  bridge-call f k = rw (fits-whole, decode-encoded) (encode-encoded (f i) k)
 
   -- so a call on the record and the buffers is the call on the image
   pub crossed : (q : Call) → step q (encoded i) ≡ with (encoded (perform q i .image)) (perform q i .answer)

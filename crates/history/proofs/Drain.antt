@@ -15,7 +15,7 @@ use Rattle.spec.specs.Image.{Image}
 use Rattle.spec.specs.Run.{Call}
 use Rattle.history.proofs.Sums.{sum, sum-has, sum-less, sum-ones, one, one-yes, one-no, one-most, one-if}
 use Rattle.history.proofs.View.{view}
-use Rattle.history.proofs.AllCalls.{told-by}
+use Rattle.history.proofs.AllCalls.{observed-by}
 use Rattle.history.specs.Rounds.{serves}
 use Rattle.history.proofs.Effects.{Side, phaseOf, numberOn, listOf, Tick}
 use Rattle.history.proofs.Grown.{next, client, Grown, is-below}
@@ -42,9 +42,9 @@ pub record Line (n : ℕ) (q : Side) : Type 0 where
   pub within : (s : Image) → Grown n s → (b : ℕ) → 1 ≤ phase q s b → 1 ≤ client s b .stage
   pub listed : (s : Image) → Grown n s → (b x : ℕ) → 4 ≤ phase q s b → list q s b x ≡ true → (1 ≤ phase q s x) × (x ≢ b)
   -- the call that serves a client in the queue: up to its list nobody waits, and it passes where all on its list have noted larger numbers
-  pub rises : (s : Image) (c : Call) → Grown n s → (b : ℕ) → serves b c (told-by c s) ≡ true → 1 ≤ phase q s b → phase q s b ≤ 3
+  pub rises : (s : Image) (c : Call) → Grown n s → (b : ℕ) → serves b c (observed-by c s) ≡ true → 1 ≤ phase q s b → phase q s b ≤ 3
       → (phase q s b < phase q (next s c) b) ⊎ (phase q (next s c) b ≡ 0)
-  pub passes : (s : Image) (c : Call) → Grown n s → (b : ℕ) → serves b c (told-by c s) ≡ true → phase q s b ≡ 4
+  pub passes : (s : Image) (c : Call) → Grown n s → (b : ℕ) → serves b c (observed-by c s) ≡ true → phase q s b ≡ 4
       → ((x : ℕ) → list q s b x ≡ true → (3 ≤ phase q s x) × (ticket q s b < ticket q s x))
       → (5 ≤ phase q (next s c) b) ⊎ (phase q (next s c) b ≡ 0)
 

@@ -12,7 +12,7 @@ use Rattle.spec.specs.Image.{Image}
 use Rattle.spec.specs.Run.{Call}
 use Rattle.history.proofs.Model.{rphase}
 use Rattle.history.proofs.View.{view}
-use Rattle.history.proofs.AllCalls.{told-by}
+use Rattle.history.proofs.AllCalls.{observed-by}
 use Rattle.history.specs.Rounds.{AllBelow, Fate, StillOpen, Closed, Abandoned, fateBy, earlier, roundLimit}
 use Rattle.history.proofs.Changes.{Remains, remains, goes-up, goes-out, stays-R, stays-C}
 use Rattle.history.proofs.Grown.{next, client, Grown, is-open, changed, does, gets, grows}
@@ -105,19 +105,19 @@ module _ (n b t : ℕ) (pos : 1 ≤ t) where
 
 abbrev pub fated : ℕ → Image → List Call → Fate
 fated b s [] = StillOpen
-fated b s (c ∷ l) = earlier (fateBy b c (told-by c s)) (fated b (next s c) l)
+fated b s (c ∷ l) = earlier (fateBy b c (observed-by c s)) (fated b (next s c) l)
 
 -- a transaction that is over, and was not abandoned, was closed
 pub was-closed : {n : ℕ} (b t : ℕ) (s : Image) (l : List Call) → Grown n s → AllBelow n l → client s b .number ≡ t → 1 ≤ client s b .stage
     → client (run s l) b .number ≢ t → fated b s l ≢ Abandoned → fated b s l ≡ Closed
 was-closed b t s [] g o e h f a = absurd (f e)
 was-closed b t s (c ∷ l) g o e h f a =
-    go (fateBy b c (told-by c s)) refl (λ z. was-closed b t (next s c) l (grows s c g (o .0)) (o .1) (z .0 ∙ e) (z .1) f)
+    go (fateBy b c (observed-by c s)) refl (λ z. was-closed b t (next s c) l (grows s c g (o .0)) (o .1) (z .0 ∙ e) (z .1) f)
   where
-    by : {x : Fate} → fateBy b c (told-by c s) ≡ x → fated b s (c ∷ l) ≡ earlier x (fated b (next s c) l)
+    by : {x : Fate} → fateBy b c (observed-by c s) ≡ x → fated b s (c ∷ l) ≡ earlier x (fated b (next s c) l)
     by i = ap (λ (x : Fate). earlier x (fated b (next s c) l)) i
 
-    go : (x : Fate) → fateBy b c (told-by c s) ≡ x
+    go : (x : Fate) → fateBy b c (observed-by c s) ≡ x
         → (Remains (client s b) (client (next s c) b) → fated b (next s c) l ≢ Abandoned → fated b (next s c) l ≡ Closed)
         → fated b s (c ∷ l) ≡ Closed
     go StillOpen i rest = by i ∙ rest (remains (view s) b h (changed s g c) (is-open s g b h) i) (λ y. a (by i ∙ y))

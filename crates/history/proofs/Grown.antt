@@ -15,7 +15,7 @@ use Rattle.history.proofs.Plain.{Plain, updateₚ}
 use Rattle.history.proofs.View.{view, stage-at}
 use Rattle.history.proofs.Invariant.{Inv}
 use Rattle.history.proofs.Simulates.{observedOutcome}
-use Rattle.history.proofs.AllCalls.{Reached, took, good-next, told-by}
+use Rattle.history.proofs.AllCalls.{Reached, transition-of, good-next, observed-by}
 use Rattle.history.specs.Rounds as calls
 use Rattle.history.specs.Rounds.{Below, serves}
 use Rattle.history.proofs.Effects.{requestSide, commitSide, OnLists, Same, Effect}
@@ -53,12 +53,12 @@ module _ {n : ℕ} (s : Image) (g : Grown n s) where
   -- ---- one call
 
   pub changed : (c : Call) → Change (view s) c (observedOutcome c (perform c s))
-  changed c = change (view s) (λ b. inv .one b .idle) (took (g .good) c)
+  changed c = change (view s) (λ b. inv .one b .idle) (transition-of (g .good) c)
 
   pub does : (c : Call) → Effect c (view s) (view (next s c))
   does c = call-effect (λ b. inv .one b .idle) (changed c)
 
-  pub gets : (c : Call) (b : ℕ) → serves b c (told-by c s) ≡ true → 1 ≤ client s b .stage → Brings (view s) (view (next s c)) b
+  pub gets : (c : Call) (b : ℕ) → serves b c (observed-by c s) ≡ true → 1 ≤ client s b .stage → Brings (view s) (view (next s c)) b
   gets c b d h = served-by (changed c) b d h
 
 pub grows : {n : ℕ} (s : Image) (c : Call) → Grown n s → Below n c → Grown n (next s c)
@@ -74,7 +74,7 @@ grows {n} s c g o =
       named = λ b h. elim (x .keep b .shut (g .named b h)) [ inl e ↦ e | inr e ↦ absurd (let l = o b (ap calls.named (e .0)) (e .1) in omega arith) ];
     }
 
-pub grows-table : {n : ℕ} (s : Image) (c : Call) (g : Grown n s) (o : Below n c) → grows s c g o .table ≡ updateₚ (g .table) c (told-by c s)
+pub grows-table : {n : ℕ} (s : Image) (c : Call) (g : Grown n s) (o : Below n c) → grows s c g o .table ≡ updateₚ (g .table) c (observed-by c s)
 unfolding grows
 grows-table s c g o = refl
 

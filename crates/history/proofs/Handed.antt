@@ -37,7 +37,7 @@ use Rattle.spec.specs.Session.{front, resultText}
 use Rattle.spec.proofs.Ends.{fit-of}
 use Rattle.history.specs.OneCall.{handed, bytesIn}
 use Rattle.history.specs.Printed.{observedText}
-use Rattle.history.proofs.Unchanged.{laid-back}
+use Rattle.history.proofs.Unchanged.{encode-same}
 
 -- ---- a row that is found is one of those searched
 
@@ -153,7 +153,7 @@ hands k x m = go (fits (m .store) (length (m .dataBytes)) (length (m .commitByte
     go : (b : Bool) → fits (m .store) (length (m .dataBytes)) (length (m .commitBytes)) ≡ b
         → Handing m (step (Read k x) m .memory) (step (Read k x) m .answer)
     go true e =
-        rw (e, laid-back (m .store) (m .dataBytes) (m .commitBytes) (read k x i) (read-looks k x i .same))
+        rw (e, encode-same (m .store) (m .dataBytes) (m .commitBytes) (read k x i) (read-looks k x i .same))
         (record { same = refl; there = has-named m e (read k x i .answer) (rw rows at (read-looks k x i .below)) })
     go false e = rw e (record { same = refl; there = tt })
 

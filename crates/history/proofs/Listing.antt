@@ -40,7 +40,7 @@ use Rattle.history.proofs.Plain.{Plain}
 use Rattle.history.proofs.View.{view, clientOf, clientsAs, number-at, stage-at}
 use Rattle.history.proofs.Walk.{empty-view}
 use Rattle.history.proofs.Bridge.{encoded, crossed, firstImage, set-up-whole, unused, refused-memory, refused-call}
-use Rattle.history.proofs.AllCalls.{Reached, took, good-next, same-memory, start-good}
+use Rattle.history.proofs.AllCalls.{Reached, transition-of, good-next, same-memory, start-good}
 use Rattle.history.proofs.Effects.{Side, requestSide, commitSide, phaseOf, listOf, out-of-commits, Fork, Up, Phases, phases}
 use Rattle.history.proofs.Changes.{Change, change, rests, starts, moves, ends}
 
@@ -290,7 +290,7 @@ earlier e l = record { isOpen = l .isOpen; number = e ∙ l .number }
 module _ {q : WaitingLists} {o : Side} (kind : Kind q o) {bounds : Bounds} where
   called : {w : ℕ} {i : Image} {p : Plain} → Reached bounds w i p → Kept kind (view i .cl) → (c : Call) (b x : ℕ)
       → listOf o (view (perform c i .image) .cl) b x ≡ true → Law kind (view i .cl) (view (perform c i .image) .cl) c b x
-  called {w} {i} {p} g kept c = law kind (λ b. g .inv .one b .idle) kept (change (view i) (λ b. g .inv .one b .idle) (took g c))
+  called {w} {i} {p} g kept c = law kind (λ b. g .inv .one b .idle) kept (change (view i) (λ b. g .inv .one b .idle) (transition-of g c))
 
   -- at the end
   here : {w : ℕ} {i : Image} {p : Plain} → Reached bounds w i p → Kept kind (view i .cl) → (k j : ℕ) → OnList q (encoded i .store) k j

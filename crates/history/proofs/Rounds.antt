@@ -26,7 +26,7 @@ use Rattle.history.proofs.Model.{State}
 use Rattle.history.proofs.Plain as own
 use Rattle.history.proofs.Walk.{empty-view}
 use Rattle.history.proofs.Erase.{erase, erase-empty, openOf, live-some, some-live}
-use Rattle.history.proofs.AllCalls.{told-by, same-told, same-memory, fed, start-good, refused-tells}
+use Rattle.history.proofs.AllCalls.{observed-by, same-observed, same-memory, fed, start-good, all-observe-refused}
 use Rattle.history.specs.Afterwards.{afterRun, tableAfter}
 use Rattle.history.specs.Rounds.{AllBelow, isOver, fateBy, earlier, fate, Queued, serves, served, Round, Rounds, roundLimit, ClosedWithin, NobodyWaits, WhoeverCalls, inTurn, RoundsExist}
 use Rattle.history.proofs.Effects.{OnLists, requestSide, commitSide}
@@ -72,7 +72,7 @@ module _ {n : ℕ} where
         grown = r .grown;
         memory = ap (afterRun l) e ∙ r .memory;
         table = ap (λ (x : Memory). tableAfter l x (update c (observed c (encoded s)) (erase (g .table)))) e
-            ∙ ap (λ (x : Answer (Observed c)). tableAfter l (encoded (next s c)) (update c x (erase (g .table)))) (same-told s (g .good .fine) c)
+            ∙ ap (λ (x : Answer (Observed c)). tableAfter l (encoded (next s c)) (update c x (erase (g .table)))) (same-observed s (g .good .fine) c)
             ∙ ap (tableAfter l (encoded (next s c))) (fed (g .good) c ∙ ap erase (sym (grows-table s c g (o .0))))
             ∙ r .table;
       }
@@ -80,16 +80,16 @@ module _ {n : ℕ} where
   fate-as : (b : ℕ) (s : Image) (l : List Call) → Grown n s → AllBelow n l → fate b (encoded s) l ≡ fated b s l
   fate-as b s [] g o = refl
   fate-as b s (c ∷ l) g o =
-      ap (λ (x : Answer (Observed c)). earlier (fateBy b c x) (fate b (step c (encoded s) .memory) l)) (same-told s (g .good .fine) c)
-      ∙ ap (λ (x : Memory). earlier (fateBy b c (told-by c s)) (fate b x l)) (same-memory s (g .good .fine) c)
-      ∙ ap (earlier (fateBy b c (told-by c s))) (fate-as b (next s c) l (grows s c g (o .0)) (o .1))
+      ap (λ (x : Answer (Observed c)). earlier (fateBy b c x) (fate b (step c (encoded s) .memory) l)) (same-observed s (g .good .fine) c)
+      ∙ ap (λ (x : Memory). earlier (fateBy b c (observed-by c s)) (fate b x l)) (same-memory s (g .good .fine) c)
+      ∙ ap (earlier (fateBy b c (observed-by c s))) (fate-as b (next s c) l (grows s c g (o .0)) (o .1))
 
   served-as : (b : ℕ) (s : Image) (l : List Call) → Grown n s → AllBelow n l → served b (encoded s) l ≡ meets b s l
   served-as b s [] g o = refl
   served-as b s (c ∷ l) g o =
-      ap (λ (x : Answer (Observed c)). serves b c x || served b (step c (encoded s) .memory) l) (same-told s (g .good .fine) c)
-      ∙ ap (λ (x : Memory). serves b c (told-by c s) || served b x l) (same-memory s (g .good .fine) c)
-      ∙ ap (λ (y : Bool). serves b c (told-by c s) || y) (served-as b (next s c) l (grows s c g (o .0)) (o .1))
+      ap (λ (x : Answer (Observed c)). serves b c x || served b (step c (encoded s) .memory) l) (same-observed s (g .good .fine) c)
+      ∙ ap (λ (x : Memory). serves b c (observed-by c s) || served b x l) (same-memory s (g .good .fine) c)
+      ∙ ap (λ (y : Bool). serves b c (observed-by c s) || y) (served-as b (next s c) l (grows s c g (o .0)) (o .1))
 
   -- the plain table has the store's stages
   queued : (s : Image) (g : Grown n s) (b : ℕ) → 1 ≤ client s b .stage → Queued (erase (g .table)) b
@@ -159,7 +159,7 @@ unfolding update
 refused-table d c [] = refl
 refused-table d c (q ∷ l) =
     ap (λ (x : Memory). tableAfter l x (update q (observed q (unused d c)) blank)) (ap (λ (a : After (Result q)). a .memory) (refused-call d c q))
-    ∙ ap (λ (x : Answer (Observed q)). tableAfter l (unused d c) (update q x blank)) (refused-tells d c q)
+    ∙ ap (λ (x : Answer (Observed q)). tableAfter l (unused d c) (update q x blank)) (all-observe-refused d c q)
     ∙ refused-table d c l
 
 nobody-queued : (t : Table) (k : ℕ) → t ≡ blank → Queued t k → ⊥

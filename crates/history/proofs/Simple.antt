@@ -49,9 +49,9 @@ begun-view i k z h =
     } in
     rw (clients-put (i .clients) z k h o, none-listed, add-one (i .counters .issued))
 
-pub begin-does : (i : Image) (k : ℕ) → Wellformed i → i .counters .issued ≤ top → Simulates i (Begin k) (begin k i)
+pub begin-simulates : (i : Image) (k : ℕ) → Wellformed i → i .counters .issued ≤ top → Simulates i (Begin k) (begin k i)
 unfolding begin
-begin-does i k z w =
+begin-simulates i k z w =
     simulates-if i (Begin k) (leb clients k) (λ h. record { did = no-begin k noClient (omega arith) (for-client (leb-true clients k h)) }) (λ h.
     let l : k < clients = leb-false clients k h in
     simulates-if i (Begin k) (isOpen i k) (λ e. record { did = no-begin k alreadyOpen (omega arith) (for-open l (same-open i k ∙ e)) }) (λ e.
@@ -82,9 +82,9 @@ lookup-view : (i : Image) (k x : ℕ)
 unfolding lookup committedAt view clientsAs clientOf
 lookup-view i k x = found-view (numberOf i k) x (snapshotOf i k) (i .commitRows) (i .dataRows)
 
-pub read-does : (i : Image) (k x : ℕ) → Wellformed i → Simulates i (Read k x) (read k x i)
+pub read-simulates : (i : Image) (k x : ℕ) → Wellformed i → Simulates i (Read k x) (read k x i)
 unfolding read
-read-does i k x z =
+read-simulates i k x z =
     simulates-if i (Read k x) (leb clients k)
     (λ h. record {
       did = no-read k x noClient (omega arith) (λ o. absurd
@@ -113,9 +113,9 @@ pub removed-view : (i : Image) (k : ℕ) → Tidy (i .clients) → k < clients �
 unfolding removed view
 removed-view i k z h = rw (closed-put (i .clients) z k h, number-of (i .clients) k, removed-rows (getD (i .clients .number) k 0) (i .dataRows))
 
-pub abandon-does : (i : Image) (k : ℕ) → Wellformed i → Simulates i (Abandon k) (abandon k i)
+pub abandon-simulates : (i : Image) (k : ℕ) → Wellformed i → Simulates i (Abandon k) (abandon k i)
 unfolding abandon
-abandon-does i k z =
+abandon-simulates i k z =
     simulates-if i (Abandon k) (leb clients k)
     (λ h. record {
       did = no-abandon k noClient (omega arith) (λ o. absurd
@@ -133,6 +133,6 @@ abandon-does i k z =
 
 -- ---- Free
 
-pub free-does : (i : Image) → Simulates i Free (free i)
+pub free-simulates : (i : Image) → Simulates i Free (free i)
 unfolding free
-free-does i = simulates i Free _ (rw (← free-at i)) frees
+free-simulates i = simulates i Free _ (rw (← free-at i)) frees

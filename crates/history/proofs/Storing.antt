@@ -142,14 +142,14 @@ module _ (i : Image) (k x : ℕ) (v : List ℕ) (z : Wellformed i) (l : length v
     may : Writable (view i .cl k .stage) x v
     may = record { cell = below; bytes = l; stage = stage }
 
-    pub stored-does : ((r : DRow) → In r (view i .dat) → r .cell < cells) → (o : Found) → find (isOwn (numberOf i k) x) 0 (i .dataRows) ≡ o
+    pub stored-simulates : ((r : DRow) → In r (view i .dat) → r .cell < cells) → (o : Found) → find (isOwn (numberOf i k) x) 0 (i .dataRows) ≡ o
         → Simulates i (Write k x v) (stored o k x v i)
     unfolding added more
-    stored-does inside (At j) e =
+    stored-simulates inside (At j) e =
         let found : writesOf (view i) k x ≡ some (valueOf (getD (i .dataRows) j [])) = find-at ∙ rw e in
         simulates i (Write k x v) (replaced j v i) (replaced-figure j ∙ replaced-view j e)
         (replaces k x v (record { may = may; fewer = λ n. absurd (true≢false (sym (ap has found) ∙ n)) }) isopen (rw found tt))
-    stored-does inside Missing e =
+    stored-simulates inside Missing e =
         let new : writesOf (view i) k x ≡ none = find-at ∙ rw e in
         let n : has (writesOf (view i) k x) ≡ false = ap has new in
         let c = count-at inside in
@@ -167,10 +167,10 @@ module _ (i : Image) (k x : ℕ) (v : List ℕ) (z : Wellformed i) (l : length v
         simulates i (Write k x v) (repliesFree more) (added-figure ∙ added-view)
         (adds k x v (record { may = may; fewer = λ _. fewer }) isopen new)))
 
-pub write-does : (i : Image) (k x : ℕ) (v : List ℕ) → Wellformed i → numberOf i k < 4294967296 → ((r : DRow) → In r (view i .dat) → r .cell < cells)
+pub write-simulates : (i : Image) (k x : ℕ) (v : List ℕ) → Wellformed i → numberOf i k < 4294967296 → ((r : DRow) → In r (view i .dat) → r .cell < cells)
     → Simulates i (Write k x v) (write k x v i)
 unfolding write
-write-does i k x v z b inside =
+write-simulates i k x v z b inside =
     simulates-if i (Write k x v) (leb clients k)
     (λ h. record {
       did = no-write k x v noClient (omega arith) (λ o. absurd
@@ -193,4 +193,4 @@ write-does i k x v z b inside =
       did = no-write k x v wrongStage (omega arith)
           (λ _. for-stage below bytes (omega (arith, stage-at i k, eqb-false (stageOf i k) 0 (not-true (eqb (stageOf i k) 0) f))));
     }) (λ f.
-    stored-does i k x v z bytes b below (is-open i k o) (at-first i k f) inside (find (isOwn (numberOf i k) x) 0 (i .dataRows)) refl)))))
+    stored-simulates i k x v z bytes b below (is-open i k o) (at-first i k f) inside (find (isOwn (numberOf i k) x) 0 (i .dataRows)) refl)))))

@@ -144,5 +144,5 @@ module _ (i : Image) where
       rw (rows-left, entries-left d, used-at i, length-map d dataRowOf)
       (left-as d (trimmedCommits d (i .commitRows)) (length (i .dataRows) - length d))
 
-  pub trim-does : Wellformed i → Simulates i Trim (trim i)
-  trim-does z = simulates i Trim (trim i) trimmed-view (trims (omega (arith, used-at i, size-at i, z .dataFit)))
+  pub trim-simulates : Wellformed i → Simulates i Trim (trim i)
+  trim-simulates z = simulates i Trim (trim i) trimmed-view (trims (omega (arith, used-at i, size-at i, z .dataFit)))

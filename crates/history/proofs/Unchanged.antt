@@ -172,8 +172,8 @@ perform-quiet Trim i = answers i _ _
 perform-quiet Free i = answers i _ _
 
 -- an outcome with the image that a record and two buffers show leaves them as they are
-pub laid-back : {A : Type 0} (s : Store) (d c : List ℕ) (o : Outcome A) → o .image ≡ decode s d c → encode s d c o ≡ afterOf s d c (o .answer)
-laid-back s d c o e = sym (stays s d c o (o .answer) (ap (λ (j : Image). record { image = j; answer = o .answer }) e))
+pub encode-same : {A : Type 0} (s : Store) (d c : List ℕ) (o : Outcome A) → o .image ≡ decode s d c → encode s d c o ≡ afterOf s d c (o .answer)
+encode-same s d c o e = sym (stays s d c o (o .answer) (ap (λ (j : Image). record { image = j; answer = o .answer }) e))
 
 -- a call that is refused, with whatever number, leaves the record and each byte of both buffers as they were
 pub unchanged : (q : Call) (m : Memory) → Unchanged q m
@@ -186,7 +186,7 @@ unchanged q m n = go (fits (m .store) (length (m .dataBytes)) (length (m .commit
     go : (b : Bool) → fits (m .store) (length (m .dataBytes)) (length (m .commitBytes)) ≡ b → step q m .answer ≡ Refused n → step q m .memory ≡ m
     go true f e =
         rw f (ap (λ (a : After (Result q)). a .memory)
-        (laid-back (m .store) (m .dataBytes) (m .commitBytes) (perform q i) (perform-quiet q i .same n (rw f at e))))
+        (encode-same (m .store) (m .dataBytes) (m .commitBytes) (perform q i) (perform-quiet q i .same n (rw f at e))))
     go false f e = rw f
 
 -- ---- set-up

@@ -10,19 +10,19 @@ use Rattle.history.proofs.Wellformed.{zero-at}
 use Rattle.history.proofs.Model as m
 use Rattle.history.proofs.View.{clientOf, clientsAs, view, none-listed}
 use Rattle.history.proofs.Simulates.{Simulates}
-use Rattle.history.proofs.Simple.{begin-does, read-does, abandon-does, free-does}
-use Rattle.history.proofs.Storing.{write-does}
-use Rattle.history.proofs.Trimming.{trim-does}
-use Rattle.history.proofs.Advancing.{Ready, advance-does}
+use Rattle.history.proofs.Simple.{begin-simulates, read-simulates, abandon-simulates, free-simulates}
+use Rattle.history.proofs.Storing.{write-simulates}
+use Rattle.history.proofs.Trimming.{trim-simulates}
+use Rattle.history.proofs.Advancing.{Ready, advance-simulates}
 
-pub perform-does : (q : Call) (i : Image) → Ready i → i .counters .issued ≤ top → Simulates i q (perform q i)
-perform-does (Begin k) i h w = begin-does i k (h .fine) w
-perform-does (Read k x) i h w = read-does i k x (h .fine)
-perform-does (Write k x v) i h w = write-does i k x v (h .fine) (h .numbers k) (h .inside)
-perform-does (Advance k) i h w = advance-does i k h
-perform-does (Abandon k) i h w = abandon-does i k (h .fine)
-perform-does Trim i h w = trim-does i (h .fine)
-perform-does Free i h w = free-does i
+pub perform-simulates : (q : Call) (i : Image) → Ready i → i .counters .issued ≤ top → Simulates i q (perform q i)
+perform-simulates (Begin k) i h w = begin-simulates i k (h .fine) w
+perform-simulates (Read k x) i h w = read-simulates i k x (h .fine)
+perform-simulates (Write k x v) i h w = write-simulates i k x v (h .fine) (h .numbers k) (h .inside)
+perform-simulates (Advance k) i h w = advance-simulates i k h
+perform-simulates (Abandon k) i h w = abandon-simulates i k (h .fine)
+perform-simulates Trim i h w = trim-simulates i (h .fine)
+perform-simulates Free i h w = free-simulates i
 
 none-open : clientsAs (clientsOf zeros zeros zeros zeros zeros zeros zeros) ≡ (λ _. m.closedₛ)
 unfolding clientsAs clientOf m.closedₛ
