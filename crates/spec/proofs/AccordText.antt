@@ -3,7 +3,22 @@
 use mathlib.Core.Path.{_≡_, refl}
 use mathlib.Core.List.{[], _∷_, _++_, map}
 use lib.ListN.{replicate}
-use Rattle.spec.specs.Text.{str, digitVal, hexVal}
+use Rattle.spec.specs.declared.Form.the-variants.{Begin, Free, Other}
+use Rattle.spec.specs.Text.{
+  str,
+  digitVal,
+  digitsFrom,
+  decimalFrom,
+  decimalAt,
+  hexVal,
+  oneAt,
+  spacedAt,
+  twoAt,
+  setUpOf,
+  writeOf,
+  formIn,
+  formOf,
+}
 use Rattle.spec.specs.Session.{lines}
 use Rattle.spec.proofs.AccordTable.{counting}
 
@@ -24,6 +39,30 @@ pub one-a-line :
     ∷ []
 unfolding lines
 one-a-line = refl
+
+-- "decimal without leading zeros up to 4,294,967,295", "single spaces", nothing behind the closing bracket
+pub forms :
+    map formOf
+    (str "(begin 0)"
+    ∷ str "(begin 01)"
+    ∷ str "(begin 4294967295)"
+    ∷ str "(begin 4294967296)"
+    ∷ str "(begin  1)"
+    ∷ str "(begin 1) "
+    ∷ str "(free)"
+    ∷ str "(free) "
+    ∷ [])
+    ≡ Begin 0
+    ∷ Other
+    ∷ Begin 4294967295
+    ∷ Other
+    ∷ Other
+    ∷ Other
+    ∷ Free
+    ∷ Other
+    ∷ []
+unfolding formOf formIn setUpOf writeOf oneAt twoAt spacedAt decimalAt decimalFrom digitsFrom digitVal
+forms = refl
 
 -- "decimal", of all 256 bytes: "0" to "9" are 48 to 57, and 10 stands for no digit
 pub decimal-digits : map digitVal (counting 256 0) ≡ replicate 48 10 ++ counting 10 0 ++ replicate 198 10

@@ -1,5 +1,4 @@
 pub mod Accord
-pub mod House
 pub mod Ends
 pub mod AccordFit
 pub mod AccordLayout

@@ -5,7 +5,6 @@ pub mod Steps
 pub mod Bytes
 pub mod Text
 pub mod Session
-pub mod Cases
 pub mod Run
 pub mod Table
 pub mod Right
