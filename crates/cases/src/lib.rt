@@ -1,1 +1,2 @@
-// The house cases of document 01, and rows for further sentences: the table in specs/, proved by computation in proofs/.
+// The house cases of document 01, and rows for further sentences: the table in specs/, proved by computation in
+// proofs/.
