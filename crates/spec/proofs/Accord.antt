@@ -5,6 +5,7 @@ use mathlib.Core.Path.{_≡_, refl}
 use mathlib.Core.Bool.{Bool, true, false}
 use mathlib.Core.Logic.{_⊎_, inl, inr}
 use mathlib.Core.List.{List, [], _∷_, flatten}
+use lib.Dec.{leb}
 use lib.ListN.{length, getD, set, replicate}
 use native.Mathlib.Omega.{arith}
 use borrow.Author.Tests.{le-ltb, le-leb, lt-leb, eq-eqb, ne-eqb}
@@ -88,7 +89,11 @@ unfolding abandon
 abandoned-late k i h o (inl e) = rw (lt-leb clients k h, o, e)
 abandoned-late k i h o (inr e) = rw (lt-leb clients k h, o, e)
 
--- document 02, 12: "64 clients, 0 to 63, and refusal 3 begins at 64": in every store, and client 63 is one like the others
+-- document 02, 12: "64 clients, 0 to 63": the tests that refusal 3 goes by
+pub sixty-four : (leb clients 63 ≡ false) × (leb clients 64 ≡ true)
+sixty-four = (refl, refl)
+
+-- "refusal 3 begins at 64": in every store, and client 63 is one like the others
 pub client-64 : (x : ℕ) (v : List ℕ) (i : Image)
     → (begin 64 i ≡ refuse noClient i) × (read 64 x i ≡ refuse noClient i) × (write 64 x v i ≡ refuse noClient i)
     × (advance 64 i ≡ refuse noClient i) × (abandon 64 i ≡ refuse noClient i)

@@ -11,7 +11,7 @@ use model::tickets::{Ticket, Tickets};
 use std::collections::{BTreeMap, BTreeSet};
 use std::io::{BufRead, BufReader, Read, Write};
 use std::path::PathBuf;
-use std::process::{Command, Stdio};
+use std::process::{Child, ChildStdin, ChildStdout, Command, Stdio};
 use std::thread;
 
 /// The tickets of document 02 that have landed stand in one place, `tests/tickets`, for these tests and for the benchmark.
@@ -34,15 +34,20 @@ pub fn program() -> PathBuf {
     PathBuf::from(concat!(env!("CARGO_MANIFEST_DIR"), "/../../target/bin/step"))
 }
 
-/// What the step program prints for an input that is handed over in pieces of at most `piece` bytes.
-pub fn output_in_pieces(input: &[u8], piece: usize) -> Vec<u8> {
+/// The step program, started, with its input and its output.
+fn started() -> (Child, ChildStdin, ChildStdout) {
     let mut child = Command::new(program())
         .stdin(Stdio::piped())
         .stdout(Stdio::piped())
         .spawn()
         .expect("the step program is built by `rt check`");
-    let mut stdin = child.stdin.take().expect("piped");
-    let mut stdout = child.stdout.take().expect("piped");
+    let (stdin, stdout) = (child.stdin.take().expect("piped"), child.stdout.take().expect("piped"));
+    (child, stdin, stdout)
+}
+
+/// What the step program prints for an input that is handed over in pieces of at most `piece` bytes.
+pub fn output_in_pieces(input: &[u8], piece: usize) -> Vec<u8> {
+    let (mut child, mut stdin, mut stdout) = started();
     let reader = thread::spawn(move || {
         let mut printed = Vec::new();
         stdout.read_to_end(&mut printed).expect("readable output");
@@ -64,13 +69,8 @@ pub fn output(input: &[u8]) -> Vec<u8> {
 /// The step program, line by line: each line is written only when the line before it is answered, so that there are as many reads as lines. What it
 /// prints in all.
 pub fn output_in_turns(script: &[u8]) -> Vec<u8> {
-    let mut child = Command::new(program())
-        .stdin(Stdio::piped())
-        .stdout(Stdio::piped())
-        .spawn()
-        .expect("the step program is built by `rt check`");
-    let mut stdin = child.stdin.take().expect("piped");
-    let mut stdout = BufReader::new(child.stdout.take().expect("piped"));
+    let (mut child, mut stdin, stdout) = started();
+    let mut stdout = BufReader::new(stdout);
     let mut printed = Vec::new();
     for line in script.split_inclusive(|&byte| byte == b'\n') {
         stdin.write_all(line).expect("the program reads all of its input");

@@ -1,4 +1,4 @@
--- `steps::enter_commits`: the stage alone changes.
+-- `queues::enter_commits`: the stage alone changes.
 -- Assumes nothing.
 use borrow.Author.Needs.{needs}
 use Rattle.queues.proofs.enter_commits.Statement.{statement}

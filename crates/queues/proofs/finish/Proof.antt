@@ -1,4 +1,4 @@
--- `steps::finish`: the client is closed.
+-- `queues::finish`: the client is closed.
 -- Assumes nothing.
 use mathlib.Core.Path.{ap, _∙_}
 use borrow.Author.Needs.{needs}

@@ -1,4 +1,4 @@
--- `steps::go_on`: one stage is stored, and nothing else changes.
+-- `queues::go_on`: one stage is stored, and nothing else changes.
 -- Assumes nothing.
 use borrow.Author.Needs.{needs}
 use Rattle.spec.specs.Bytes.{decode}

@@ -1,4 +1,4 @@
--- `steps::leave_requests`: the client is closed.
+-- `queues::leave_requests`: the client is closed.
 -- Assumes nothing.
 use borrow.Author.Needs.{needs}
 use Rattle.spec.specs.Bytes.{decode}

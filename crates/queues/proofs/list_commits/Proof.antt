@@ -1,4 +1,4 @@
--- `steps::list_commits`: the list is that of all others in the commit queue.
+-- `queues::list_commits`: the list is that of all others in the commit queue.
 -- Assumes nothing.
 use borrow.Author.Needs.{needs}
 use Rattle.spec.specs.Bytes.{decode, encode}

@@ -1,4 +1,4 @@
--- `steps::list_requests`: the list is that of the queued clients who share a cell.
+-- `queues::list_requests`: the list is that of the queued clients who share a cell.
 -- Assumes nothing.
 use borrow.Author.Needs.{needs}
 use Rattle.spec.specs.Bytes.{decode, encode}

@@ -1,8 +1,11 @@
--- `steps::look_commits`: the list that the look leaves decides.
+-- `queues::look_commits`: the list that the look leaves decides.
 -- Assumes nothing.
+use mathlib.Core.Path.{_≡_}
 use borrow.Author.Needs.{needs}
+use lib.ListN.{getD}
+use Rattle.spec.specs.Set.{clients, strike}
 use Rattle.spec.specs.Bytes.{decode, encode}
-use Rattle.spec.specs.Steps.{lookCommits}
+use Rattle.spec.specs.Steps.{commitQueue, struck, lookCommits}
 use Rattle.queues.proofs.look_commits.Statement.{statement}
 use Rattle.queues.proofs.look_commits.Tie as tie
 
@@ -37,7 +40,13 @@ returns : tie.Need-returns
 unfolding lookCommits decode encode
 returns c =
     let queue = c .before .before .before .before .before .before .before .commit-queue in
-    λ d e. rw (← (rw (queue .ensures) at (c .before .look .ensures))) (c .looked .ensures d e)
+    let a = c .before .before .before .before .before .before .before .before .args in
+    let s = a .store in
+    let z : c .before .look .result
+        ≡ strike (λ j. struck commitQueue (getD (s .commit) (a .client) 0) (getD (s .stage) j 0) (getD (s .commit) j 0))
+        (getD (s .commitWaits) (a .client) 0) clients =
+        rw (queue .ensures) at (c .before .look .ensures) in
+    λ d e. rw (← z) (c .looked .ensures d e)
 
 pub look-commits-spec : {M : Type 1} → statement M
 look-commits-spec =

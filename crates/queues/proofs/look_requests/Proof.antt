@@ -1,4 +1,4 @@
--- `steps::look_requests`: the list that the look leaves decides.
+-- `queues::look_requests`: the list that the look leaves decides.
 -- Assumes nothing.
 use borrow.Author.Needs.{needs}
 use Rattle.spec.specs.Bytes.{decode, encode}

@@ -1,4 +1,4 @@
--- `steps::looked`: the next stage where the list is empty, else its size.
+-- `queues::looked`: the next stage where the list is empty, else its size.
 -- Assumes nothing.
 use native.Mathlib.Omega.{arith}
 use borrow.Author.Needs.{needs}

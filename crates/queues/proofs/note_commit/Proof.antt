@@ -1,4 +1,4 @@
--- `steps::note_commit`: the stage alone changes.
+-- `queues::note_commit`: the stage alone changes.
 -- Assumes nothing.
 use borrow.Author.Needs.{needs}
 use Rattle.queues.proofs.note_commit.Statement.{statement}
