@@ -43,9 +43,9 @@ returns c =
     let a = c .before .before .before .before .before .before .before .before .args in
     let s = a .store in
     let z : c .before .look .result
-        ≡ strike (λ j. struck commitQueue (getD (s .commit) (a .client) 0) (getD (s .stage) j 0) (getD (s .commit) j 0))
-        (getD (s .commitWaits) (a .client) 0) clients =
-        rw (queue .ensures) at (c .before .look .ensures) in
+    ≡ strike (λ j. struck commitQueue (getD (s .commit) (a .client) 0) (getD (s .stage) j 0) (getD (s .commit) j 0))
+    (getD (s .commitWaits) (a .client) 0) clients =
+    rw (queue .ensures) at (c .before .look .ensures) in
     λ d e. rw (← z) (c .looked .ensures d e)
 
 pub look-commits-spec : {M : Type 1} → statement M
