@@ -17,7 +17,7 @@ use Rattle.spec.specs.Image.{Image, empty}
 use Rattle.spec.specs.Calls.{Outcome}
 use Rattle.spec.specs.Bytes.{After, afterOf, decode, storeOf, encode, known, fits, onBytes, limitOf, accepts, setUp, Memory}
 use Rattle.spec.specs.Run.{Call, perform, step}
-use Rattle.spec.proofs.Ends.{accepted}
+use Rattle.spec.proofs.Ends.{known-next, accepted}
 use Rattle.history.proofs.Spread.{spread, length-spread, rows-spread, laid-spread}
 use Rattle.history.proofs.Wellformed.{Wellformed, Kept, perform-kept, empty-fine}
 
@@ -34,7 +34,7 @@ with m a = afterOf (m .store) (m .dataBytes) (m .commitBytes) a
 known-all : (l : List ℕ) (n : ℕ) → ((j : ℕ) → getD l j 0 ≤ 13) → known l n ≡ true
 unfolding known
 known-all l zero h = refl
-known-all l (suc n) h = rw (le-ltb 13 (getD l n 0) (h n)) (known-all l n h)
+known-all l (suc n) h = rw (known-next l n, le-ltb 13 (getD l n 0) (h n)) (known-all l n h)
 
 module _ (i : Image) (h : Wellformed i) where
   -- an image laid out is a fit store

@@ -115,7 +115,7 @@ pub fn list_requests(store: Store, rows: &[u8], client: u32) -> AdvanceTurn
     let number = numbers[k];
     let used = store.used as usize;
     let stages = store.stage;
-    let queued = record::others(queue, &stages, client);
+    let queued = waiting::others(queue, &stages, client);
     let mut next = store;
     let mut request_waits = store.requestWaits;
     request_waits[k] = search::sharers(rows, used, number, &numbers, queued);
@@ -150,7 +150,7 @@ pub fn look_requests(store: Store, client: u32) -> AdvanceTurn
     let mut next = store;
     let mut request_waits = store.requestWaits;
     let before = request_waits[k];
-    let list = record::look(queue, own, &stages, &requests, before);
+    let list = waiting::look(queue, own, &stages, &requests, before);
     request_waits[k] = list;
     next.requestWaits = request_waits;
     looked(next, client, list, 5)
@@ -200,7 +200,7 @@ pub fn list_commits(store: Store, client: u32) -> AdvanceTurn
     let stages = store.stage;
     let mut next = store;
     let mut lists = store.commitWaits;
-    lists[k] = record::others(queue, &stages, client);
+    lists[k] = waiting::others(queue, &stages, client);
     next.commitWaits = lists;
     go_on(next, client, 10)
 }
@@ -218,7 +218,7 @@ pub fn look_commits(store: Store, client: u32) -> AdvanceTurn
     let mut next = store;
     let mut lists = store.commitWaits;
     let before = lists[k];
-    let list = record::look(queue, own, &stages, &noted, before);
+    let list = waiting::look(queue, own, &stages, &noted, before);
     lists[k] = list;
     next.commitWaits = lists;
     looked(next, client, list, 11)
@@ -230,7 +230,7 @@ pub fn leave_commits(store: Store, client: u32) -> AdvanceTurn
     ensures { λ r. ⌜ StepUnseen (leaveCommits client) store r ⌝ }
 {
     let commit_waits = store.commitWaits;
-    let lists = record::clear_all(commit_waits, client);
+    let lists = waiting::clear_all(commit_waits, client);
     let mut next = store;
     next.commitWaits = lists;
     go_on(next, client, 13)

@@ -1,15 +1,13 @@
-// The record by value: fitness, closing a client, the two queues, set-up's tests, Trim's low.
+// The record by value: fitness, closing a client, set-up's tests, Trim's low.
 ghost use mathlib.Core.Path.{_≡_};
-ghost use mathlib.Core.Bool.{not, _&&_};
+ghost use mathlib.Core.Bool.{not};
 ghost use mathlib.Core.List.{List};
 ghost use lib.Dec.{eqb};
-ghost use lib.ListN.{getD};
 ghost use Prim.Native.Nat.{ℕ, _<_};
-ghost use Rattle.spec.specs.Set.{clients, collect, strike};
+ghost use Rattle.spec.specs.Set.{clients};
 ghost use Rattle.spec.specs.Choice.{if_then_else_};
-ghost use Rattle.spec.specs.Image.{cleared, closed, empty};
+ghost use Rattle.spec.specs.Image.{closed, empty};
 ghost use Rattle.spec.specs.Calls.{low};
-ghost use Rattle.spec.specs.Steps.{queued, struck};
 ghost use Rattle.record.specs.Inner.{SmallestOpen};
 ghost use Rattle.spec.specs.Bytes.{countersIn, clientsIn, recordOf, decode, storeOf, known, fits, limitOf, accepts};
 use spec::CLIENTS;
@@ -17,11 +15,8 @@ use spec::COMMIT_ROW;
 use spec::DATA_ROW;
 use spec::FigureAnswer;
 use spec::FigureTurn;
-use spec::LIMIT;
 use spec::Number;
-use spec::Queue;
 use spec::Refusal;
-use spec::Set;
 use spec::Store;
 
 // Whether all stages are known ones, 0 to 13.
@@ -88,18 +83,6 @@ pub fn fresh(rows: u32, limit: u32, issued: u32) -> Store
     }
 }
 
-// The lists with the client's bit cleared in each.
-pub fn clear_all(lists: [Set; CLIENTS], client: u32) -> [Set; CLIENTS]
-    ensures { λ r. ⌜ r ≡ cleared client lists ⌝ }
-{
-    let mut out = lists;
-    for i in 0..CLIENTS {
-        let list = out[i];
-        out[i] = sets::without(list, client);
-    }
-    out
-}
-
 // The client closed: its fields zero, and its bit cleared in each waiting list.
 pub fn close(store: Store, client: u32) -> Store
     requires { ⌜ client < clients ⌝ }
@@ -118,10 +101,10 @@ pub fn close(store: Store, client: u32) -> Store
     let mut commits = store.commit;
     commits[k] = 0;
     let request_waits = store.requestWaits;
-    let mut request_waits_left = clear_all(request_waits, client);
+    let mut request_waits_left = waiting::clear_all(request_waits, client);
     request_waits_left[k] = 0;
     let commit_waits = store.commitWaits;
-    let mut commit_waits_left = clear_all(commit_waits, client);
+    let mut commit_waits_left = waiting::clear_all(commit_waits, client);
     commit_waits_left[k] = 0;
     let mut next = store;
     next.stage = stages;
@@ -132,67 +115,6 @@ pub fn close(store: Store, client: u32) -> Store
     next.requestWaits = request_waits_left;
     next.commitWaits = commit_waits_left;
     next
-}
-
-// ---- queues
-
-// Whether a client at this stage is in the queue.
-fn in_queue(queue: Queue, stage: u32) -> bool
-    ensures { λ r. ⌜ r ≡ queued queue stage ⌝ }
-{
-    if stage < queue.first {
-        return false;
-    }
-    stage <= queue.last
-}
-
-// The clients in the queue other than the client.
-pub fn others(queue: Queue, stage: &[u32; CLIENTS], client: u32) -> Set
-    ensures { λ r. ⌜ r ≡ collect (λ j. not (eqb j client) && queued queue (getD (now (stage .entry)) j 0)) clients ⌝ }
-{
-    let mut out: Set = 0;
-    for i in 0..CLIENTS {
-        if in_queue(queue, stage[i]) {
-            out = sets::with(out, i as u32);
-        }
-    }
-    sets::without(out, client)
-}
-
-// Whether a look by a client with number own strikes a client at this stage with this number.
-fn strikes(queue: Queue, own: u32, stage: u32, number: u32) -> bool
-    ensures { λ r. ⌜ r ≡ struck queue own stage number ⌝ }
-{
-    if !in_queue(queue, stage) {
-        return true;
-    }
-    if stage < queue.noted {
-        return false;
-    }
-    own < number
-}
-
-// The clients of a waiting list that a look leaves on it.
-pub fn look(
-    queue: Queue,
-    own: u32,
-    stage: &[u32; CLIENTS],
-    number: &[u32; CLIENTS],
-    list: Set,
-) -> Set
-    ensures { λ r. ⌜ r ≡ strike
-        (λ j. struck queue own (getD (now (stage .entry)) j 0) (getD (now (number .entry)) j 0)) list clients ⌝ }
-{
-    if list == 0 {
-        return 0;
-    }
-    let mut out = list;
-    for i in 0..CLIENTS {
-        if strikes(queue, own, stage[i], number[i]) {
-            out = sets::without(out, i as u32);
-        }
-    }
-    out
 }
 
 // ---- set-up
@@ -248,7 +170,7 @@ fn smallest_open(numbers: &[u32; CLIENTS], snapshots: &[u32; CLIENTS]) -> Number
 {
     let mut best = Number::None;
     for i in 0..CLIENTS {
-        best = search::lesser_of(reader(numbers[i], snapshots[i]), best);
+        best = numbers::lesser_of(reader(numbers[i], snapshots[i]), best);
     }
     best
 }

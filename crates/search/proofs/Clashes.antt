@@ -13,7 +13,7 @@ use Rattle.spec.specs.declared.Number.the-variants.{Some, None}
 use Rattle.spec.specs.Numbers.{lesser, smallest, above}
 use Rattle.spec.specs.Look.{commitOf}
 use Rattle.spec.specs.Share.{any, wrote, clash, conflict}
-use Rattle.search.proofs.Folds.{lesser-assoc, lesser-none}
+use Rattle.numbers.proofs.Grouping.{lesser-assoc, lesser-none}
 
 -- ---- no commit above the snapshot
 

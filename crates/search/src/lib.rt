@@ -8,12 +8,10 @@ ghost use Rattle.spec.specs.Set.{clients, member, insert};
 ghost use Rattle.spec.specs.Choice.{if_then_else_};
 ghost use Rattle.spec.specs.Rows.{dataWidth, commitWidth, dataRowsIn, commitRowsIn, rowAt, rowsFrom, tagOf};
 ghost use Rattle.spec.specs.Rows.{cellOf, commitNumber, hasTag};
-ghost use Rattle.spec.specs.Numbers.{lesser, above, upTo};
-ghost use Rattle.spec.specs.Look.{commitOf, newer, versionAt, lookFor};
+ghost use Rattle.spec.specs.Look.{commitOf, lookFor};
 ghost use Rattle.spec.specs.Share.{any, wrote, cellsOf, conflict};
 ghost use Rattle.search.specs.Inner.{ownOf, sharersOf, Joined, Next, WrittenMarks};
 use spec::CLIENTS;
-use spec::Found;
 use spec::Lookup;
 use spec::Number;
 use spec::Set;
@@ -73,40 +71,6 @@ pub fn commit_of(commits: &[u8], entries: usize, tag: u32) -> Number
 
 // ---- Read
 
-fn up_to(snapshot: u32, number: Number) -> Number
-    ensures { λ r. ⌜ r ≡ upTo snapshot number ⌝ }
-{
-    match number {
-        Number::Some(n) => { if n <= snapshot { number } else { Number::None } }
-        Number::None => Number::None,
-    }
-}
-
-fn newer_version(best: Lookup, i: usize, n: u32) -> Lookup
-    ensures { λ r. ⌜ r ≡ newer best (Lookup.Version i n) ⌝ }
-{
-    match best {
-        Lookup::Version { at: _, number } => {
-            if number < n {
-                Lookup::Version { at: i, number: n }
-            } else {
-                best
-            }
-        }
-        Lookup::Nothing => Lookup::Version { at: i, number: n },
-    }
-}
-
-// The better of what was seen before and row i under a number.
-fn newer_of(best: Lookup, i: usize, number: Number) -> Lookup
-    ensures { λ r. ⌜ r ≡ newer best (versionAt i number) ⌝ }
-{
-    match number {
-        Number::Some(n) => newer_version(best, i, n),
-        Number::None => best,
-    }
-}
-
 // The row that a read finds: the reader's own, else the visible one, in one pass.
 pub fn look_for(
     rows: &[u8],
@@ -129,8 +93,8 @@ pub fn look_for(
         if writer == tag {
             return Lookup::Version { at: i, number: 0 };
         }
-        let number = up_to(snapshot, commit_of(commits, entries, writer));
-        best = newer_of(best, i, number);
+        let number = numbers::up_to(snapshot, commit_of(commits, entries, writer));
+        best = numbers::newer_of(best, i, number);
         i = next_cell(rows, i + 1, used, cell);
     }
     best
@@ -314,34 +278,6 @@ fn any_above(commits: &[u8], entries: usize, s: u32) -> bool
     false
 }
 
-fn above_of(snapshot: u32, number: Number) -> Number
-    ensures { λ r. ⌜ r ≡ above snapshot number ⌝ }
-{
-    match number {
-        Number::Some(n) => { if snapshot < n { number } else { Number::None } }
-        Number::None => Number::None,
-    }
-}
-
-fn lesser_than(m: u32, other: Number) -> Number
-    ensures { λ r. ⌜ r ≡ lesser (Number.Some m) other ⌝ }
-{
-    match other {
-        Number::Some(n) => { if n < m { other } else { Number::Some(m) } }
-        Number::None => Number::Some(m),
-    }
-}
-
-// The smaller of two numbers that may be missing.
-pub fn lesser_of(a: Number, b: Number) -> Number
-    ensures { λ r. ⌜ r ≡ lesser a b ⌝ }
-{
-    match a {
-        Number::Some(m) => lesser_than(m, b),
-        Number::None => b,
-    }
-}
-
 // The smallest commit number above the snapshot of a row whose cell the transaction wrote.
 pub fn conflict(
     rows: &[u8],
@@ -365,7 +301,7 @@ pub fn conflict(
     while i < used {
         if has_written(&marks, rows, used, tag, rows::cell_at(rows, i)) {
             let number = commit_of(commits, entries, rows::tag_at(rows, i));
-            best = lesser_of(best, above_of(snapshot, number));
+            best = numbers::lesser_of(best, numbers::above_of(snapshot, number));
         }
         i += 1;
     }

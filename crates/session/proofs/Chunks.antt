@@ -14,7 +14,8 @@ use lib.Seq.{drop-cons, drop-drop}
 use lib.Dec.{eqb}
 use Rattle.spec.specs.Session.{answerTo, answers, memoryAfter}
 use Rattle.spec.specs.Bytes.{Memory}
-use Rattle.session.specs.Inner.{newlineFrom, push, linesOf, unlessLines, restOf, Spoken}
+use Rattle.session.specs.Inner.{newlineFrom, push, linesOf, unlessLines, restOf}
+use Rattle.lines.specs.Inner.{Spoken}
 
 -- ---- one turn of the search for a newline
 

@@ -8,12 +8,9 @@ use mathlib.Core.Bool.{Bool, true, false}
 use mathlib.Core.Path.{_≡_}
 use mathlib.Core.Logic.{_⊎_}
 use lib.ListN.{length, take, drop}
-use Rattle.spec.specs.declared.Store.{Store}
-use Rattle.spec.specs.declared.FigureAnswer.{FigureAnswer}
-use Rattle.spec.specs.declared.FigureAnswer.the-variants.{Answered, Refused}
-use Rattle.spec.specs.Session.{memoryAfter, Response, answers, initial}
+use Rattle.spec.specs.Session.{memoryAfter, answers, initial}
 use Rattle.spec.specs.Bytes.{Memory}
-use Rattle.text.specs.Inner.{answerRoom, Put}
+use Rattle.text.specs.Inner.{answerRoom}
 
 -- ---- The lines of an input that end in a newline, and what stands behind the last of them.
 
@@ -41,22 +38,7 @@ unfoldable pub restOf : List ℕ → List ℕ
 restOf [] = []
 restOf (b ∷ s) = if eqb b 10 then restOf s else unlessLines (linesOf s) b (restOf s)
 
--- ---- What the answer to one line, and to the whole lines of a chunk of input, leaves and prints.
-
--- r is n, or the length of a buffer that has fewer than n bytes
-abbrev pub Front : ℕ → ℕ → ℕ → Type 0
-Front n len r = (r ≡ n) ⊎ ((r ≡ len) × (len ≤ n))
-
--- w is what the response leaves, and out, whose text ended at a place, has become out′, whose text ends at used, with the response's text appended
-pub record Spoken (p : Response) (w : Memory) (out : List ℕ) (at : ℕ) (out′ : List ℕ) (used : ℕ) : Type 0 where
-  pub memory : w ≡ p .memory
-  pub text : Put out at (p .text) out′ used
-  pub room : used ≤ at + answerRoom
-
--- "a refused set-up keeps the old one"
-abbrev pub keptOf : Store → Store → FigureAnswer → Store
-keptOf old new (Answered n) = new
-keptOf old new (Refused r) = old
+-- ---- What the answers to the whole lines of a chunk of input leave and print.
 
 -- the text in out has grown by the answers to the lines of s between two places, and the state has gone along; what is begun at the end of s
 -- is still to come; what is left has no whole line, or out has no room for an answer; where no line was answered, nothing was said

@@ -3,10 +3,10 @@
 -- Assumes nothing.
 use Prim.Native.Nat.{ℕ, zero, suc, _*_, _≤_, _<_}
 use native.Mathlib.Omega.{arith}
-use mathlib.Core.Path.{_≡_, refl, subst, sym}
-use mathlib.Core.Bool.{Bool, true, false, not}
-use mathlib.Core.List.{List}
-use borrow.Author.Tests.{eqb-true, eqb-false, ltb-false, le-ltb, eq-eqb}
+use mathlib.Core.Path.{_≡_, refl}
+use mathlib.Core.Bool.{true, not}
+use mathlib.Core.List.{List, [], _∷_}
+use borrow.Author.Tests.{ltb-false, le-ltb, eq-eqb}
 use lib.Dec.{eqb, ltb}
 use lib.ListN.{getD}
 use Rattle.spec.specs.declared.Store.{Store}
@@ -17,18 +17,16 @@ use Rattle.spec.proofs.Ends.{unless, FitFacts}
 known-each : (l : List ℕ) (n : ℕ) → known l n ≡ true → (k : ℕ) → k < n → getD l k 0 ≤ 13
 unfolding known
 known-each l zero e k h = absurd (omega (arith, h))
-known-each l (suc n) e k h =
-    let last : (ltb 13 (getD l n 0) ≡ false) × (known l n ≡ true) = unless (ltb 13 (getD l n 0)) (known l n) e in
-    go (eqb k n) refl (ltb-false 13 (getD l n 0) (last .0)) (λ g. known-each l n (last .1) k g)
-  where
-    go : (b : Bool) → eqb k n ≡ b → getD l n 0 ≤ 13 → (k < n → getD l k 0 ≤ 13) → getD l k 0 ≤ 13
-    go true q x y = subst (λ (j : ℕ). getD l j 0 ≤ 13) (sym (eqb-true k n q)) x
-    go false q x y = let d : (k ≡ n → ⊥) = eqb-false k n q in y (omega (arith, h, d))
+known-each [] (suc n) e zero h = omega arith
+known-each [] (suc n) e (suc k) h = omega arith
+known-each (g ∷ l) (suc n) e zero h = ltb-false 13 g (unless (ltb 13 g) (known l n) e .0)
+known-each (g ∷ l) (suc n) e (suc k) h = known-each l n (unless (ltb 13 g) (known l n) e .1) k (omega (arith, h))
 
 known-all : (l : List ℕ) (n : ℕ) → ((k : ℕ) → k < n → getD l k 0 ≤ 13) → known l n ≡ true
 unfolding known
 known-all l zero h = refl
-known-all l (suc n) h = rw (le-ltb 13 (getD l n 0) (h n (omega arith))) (known-all l n (λ k g. h k (omega (arith, g))))
+known-all [] (suc n) h = refl
+known-all (g ∷ l) (suc n) h = rw (le-ltb 13 g (h 0 (omega arith))) (known-all l n (λ k q. h (suc k) (omega (arith, q))))
 
 -- a fit store's stages are known, those of all 64 clients (document 02, 12)
 pub stages-known : (s : Store) (d c : ℕ) → fits s d c ≡ true → (k : ℕ) → k < 64 → getD (s .stage) k 0 ≤ 13

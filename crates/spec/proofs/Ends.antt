@@ -1,12 +1,12 @@
 -- How a call ends: the laws by which each return of a call's code is shown to be what the call's definition leaves.
 -- Assumes nothing.
-use Prim.Native.Nat.{ℕ, _*_, _/_, _≤_}
+use Prim.Native.Nat.{ℕ, zero, suc, _*_, _/_, _≤_}
 use mathlib.Core.Path.{_≡_, refl}
 use mathlib.Core.Bool.{Bool, true, false, not, false≢true}
-use mathlib.Core.List.{List}
+use mathlib.Core.List.{List, [], _∷_}
 use borrow.Author.Tests.{eqb-true, eqb-false, ltb-false, not-false}
 use lib.Dec.{eqb, ltb}
-use lib.ListN.{length}
+use lib.ListN.{length, getD}
 use Rattle.spec.specs.Choice.{if_then_else_}
 use Rattle.spec.specs.Rows.{rowsIn, layout}
 use Rattle.spec.proofs.Rows.{length-rows}
@@ -15,12 +15,25 @@ use Rattle.spec.specs.declared.Store.{Store}
 use Rattle.spec.specs.Answers.{Answer, Refused, unfit}
 use Rattle.spec.specs.Image.{Counters, Clients, imageOf, Image}
 use Rattle.spec.specs.Calls.{Outcome}
-use Rattle.spec.specs.Bytes.{countersIn, clientsIn, recordOf, decode, storeOf, After, afterOf, encode, fits, onBytes, accepts}
+use Rattle.spec.specs.Bytes.{countersIn, clientsIn, recordOf, decode, storeOf, After, afterOf, encode, known, fits, onBytes, accepts}
 
 -- the tests of a chain that ends in true
 pub unless : (a b : Bool) → (if a then false else b) ≡ true → (a ≡ false) × (b ≡ true)
 unless true b e = absurd (false≢true e)
 unless false b e = (refl, e)
+
+-- one client more
+pub known-next : (l : List ℕ) (n : ℕ) → known l (suc n) ≡ (if ltb 13 (getD l n 0) then false else known l n)
+unfolding known
+known-next [] zero = refl
+known-next [] (suc n) = refl
+known-next (g ∷ l) zero = refl
+known-next (g ∷ l) (suc n) = rw (known-next l n) (swap (ltb 13 g) (ltb 13 (getD l n 0)) (known l n))
+  where
+    swap : (a b c : Bool) → (if a then false else if b then false else c) ≡ (if b then false else if a then false else c)
+    swap true true c = refl
+    swap true false c = refl
+    swap false b c = refl
 
 -- what a fit store is
 pub record FitFacts (s : Store) (d c : ℕ) : Type 0 where

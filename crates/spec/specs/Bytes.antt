@@ -3,8 +3,8 @@
 use Prim.Native.Nat.{ℕ, zero, suc, _*_, _-_, _/_}
 use mathlib.Core.Path.{_≡_}
 use mathlib.Core.Bool.{Bool, true, false, not}
-use mathlib.Core.List.{List}
-use lib.ListN.{length, getD, replicate}
+use mathlib.Core.List.{List, [], _∷_}
+use lib.ListN.{length, replicate}
 use lib.Dec.{ltb, eqb}
 use Rattle.spec.specs.Choice.{if_then_else_}
 use Rattle.spec.specs.Set.{clients}
@@ -80,7 +80,8 @@ mostRows = 1024
 -- the stages of the clients below n are known ones
 unfoldable pub known : List ℕ → ℕ → Bool
 known l zero = true
-known l (suc n) = if ltb 13 (getD l n 0) then false else known l n
+known [] (suc n) = true
+known (g ∷ l) (suc n) = if ltb 13 g then false else known l n
 
 -- "A store is unfit if a buffer's length isn't that of its set-up, a row count exceeds its rows, its rows aren't 1 to 1,024, or a stage is
 -- unknown": here the store is fit, with a data buffer of d bytes and a committed buffer of c

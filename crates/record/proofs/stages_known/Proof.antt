@@ -10,6 +10,7 @@ use borrow.Author.Tests.{lt-ltb, le-ltb}
 use lib.ListN.{getD}
 use Rattle.spec.specs.Set.{clients}
 use Rattle.spec.specs.Bytes.{known}
+use Rattle.spec.proofs.Ends.{known-next}
 use Rattle.record.proofs.stages_known.Statement.{statement}
 use Rattle.record.proofs.stages_known.Tie as tie
 
@@ -36,12 +37,11 @@ loop-less : tie.Need-loop-less Inv-loop μ-loop
 loop-less c = search needs
 
 loop-again : tie.Need-loop-again Inv-loop μ-loop
-unfolding known
 loop-again c =
     let l = c .before .before .before .before .args .stage .now in
     let loop = c .before .before .before .loop in (
       search needs,
-      rw (add-one (loop .i))
+      rw (add-one (loop .i), known-next l (loop .i))
           (⊎-elim
           (λ w. rw (lt-ltb 13 (getD l (loop .i) 0) (w .0 .taken)) (w .1))
           (λ w. rw (le-ltb 13 (getD l (loop .i) 0) (w .0 .left)) (w .1 ∙ loop .inv .1))
