@@ -1,6 +1,6 @@
 -- `writes::write`: the refusals in the definition's order, then the row.
 -- Assumes nothing.
-use mathlib.Core.Path.{sym, ap, _∙_}
+use mathlib.Core.Path.{_≡_, sym, ap, _∙_}
 use native.Mathlib.Omega.{arith}
 use borrow.Author.Needs.{needs}
 use borrow.Author.Tests.{lt-leb, le-leb, eq-eqb, ne-eqb, not-true, not-false}
@@ -13,6 +13,7 @@ use Rattle.spec.specs.Bytes.{decode, encode}
 use Rattle.spec.proofs.Ends.{fit-of, ends-unfit, goes, refuses}
 use Rattle.writes.proofs.Outcomes.{own-row, own-rows, write-stored, found-below}
 use Rattle.spec.specs.declared.Found.{Found}
+use Rattle.spec.specs.declared.Found.the-variants.{At, Missing}
 use Rattle.writes.proofs.write.Statement.{statement}
 use Rattle.writes.proofs.write.Tie as tie
 
@@ -97,17 +98,16 @@ unfolding write decode
 returns-6 c =
     let a = c .before .before .before .before .before .before .before .before .before .before .before .before .before .args in
     let s = a .store in
+    let tested = c .before .before .before .before .before .before .before .before in
+    let fit = sym (tested .before .fit .ensures) ∙ not-false _ (tested .if1 .left) in
     rw (c .no-figure6 .ensures)
-    (refuses _ _ _ _ _ (sym (c .before .before .before .before .before .before .before .before .before .fit .ensures) ∙ not-false _
-    (c .before .before .before .before .before .before .before .before .if1 .left))
+    (refuses s (a .rows .now) (a .commits .now) (write (a .client) (a .cell) (a .value .now)) _ fit
     (rw (
       lt-leb clients (a .client) (omega arith),
       lt-leb 1024 (a .cell) (omega arith),
-      eq-eqb (length (a .value .now)) 16
-          (omega arith),
+      eq-eqb (length (a .value .now)) 16 (omega arith),
       ne-eqb (getD (s .number) (a .client) 0) 0 (c .before .before .before .if5 .left),
-      ne-eqb
-          (getD (s .stage) (a .client) 0) 0 (c .before .if6 .taken),
+      ne-eqb (getD (s .stage) (a .client) 0) 0 (c .before .if6 .taken),
     )))
 
 cast-used : tie.Need-cast-used
@@ -123,48 +123,74 @@ enum-known-own c = search needs
 
 replace-row-requires : tie.Need-replace-row-requires
 replace-row-requires c κs =
-    let a = c .before .before .before .before .before .before .before .before .before .before .before .before .before .before .before .before .before .before .before .args in
+    let a = c .before .before .before .before .before .before .before .before .before .before
+    .before .before .before .before .before .before .before .before .before .args in
     let f : Found = find (isOwn (getD (a .store .number) (a .client) 0) (a .cell)) 0 (rowsIn 24 (a .store .used) (a .rows .now)) in
+    let fit = sym (c .before .before .before .before .before .before .before .before .before .before
+    .before .before .before .before .before .fit .ensures)
+    ∙ not-false _ (c .before .before .before .before .before .before .before .before .before .before .before .before .before .before .if1 .left) in
     let found = own-row f _ _ _ (c .before .before .before .before .own-row .ensures) (c .before .before .own .given .1) in
-    ((sym (c .before .before .before .before .before .before .before .before .before .before .before .before .before .before .before .fit .ensures) ∙ not-false _ (c .before .before .before .before .before .before .before .before .before .before .before .before .before .before .if1 .left)), (found-below _ _ _ _ _ found, omega arith))
+    (fit, (found-below _ _ _ _ _ found, omega arith))
 
 enum-known-own-2 : tie.Need-enum-known-own-2
 enum-known-own-2 c = search needs
 
 add-row-requires : tie.Need-add-row-requires
 add-row-requires c κs =
-    let a = c .before .before .before .before .before .before .before .before .before .before .before .before .before .before .before .before .before .before .before .args in
+    let a = c .before .before .before .before .before .before .before .before .before .before
+    .before .before .before .before .before .before .before .before .before .args in
     let f : Found = find (isOwn (getD (a .store .number) (a .client) 0) (a .cell)) 0 (rowsIn 24 (a .store .used) (a .rows .now)) in
+    let fit = sym (c .before .before .before .before .before .before .before .before .before .before
+    .before .before .before .before .before .fit .ensures)
+    ∙ not-false _ (c .before .before .before .before .before .before .before .before .before .before .before .before .before .before .if1 .left) in
     let missing = own-rows f _ _ _ (c .before .before .before .before .own-row .ensures) (c .before .before .own2 .given .1) in
-    ((sym (c .before .before .before .before .before .before .before .before .before .before .before .before .before .before .before .fit .ensures) ∙ not-false _ (c .before .before .before .before .before .before .before .before .before .before .before .before .before .before .if1 .left)), (omega arith, (omega arith, (omega arith, missing .1))))
+    (fit, (omega arith, (omega arith, (omega arith, missing .1))))
 
 same-length : tie.Need-same-length
 same-length c = search needs
 
 returns-7 : tie.Need-returns-7
 returns-7 c =
-    goes _ _ _ _ (sym
-    (c .before .before .before .before .before .before .before .before .before .before .before .before .before .before .before .before .before .before .fit .ensures) ∙ not-false _ (c .before .before .before .before .before .before .before .before .before .before .before .before .before .before .before .before .before .if1 .left))
+    let own = c .before .before .before .before .before in
+    let looked = own .before .before in
+    let staged = looked .before .before .before in
+    let opened = staged .before .before in
+    let tested = opened .before .before .before .before .before in
+    let a = tested .before .before .before .before .before .args in
+    let s = a .store in
+    let d = a .rows .now in
+    let e = a .commits .now in
+    let k = a .client in
+    let f : Found = find (isOwn (getD (s .number) k 0) (a .cell)) 0 (rowsIn 24 (s .used) d) in
+    let fit = sym (tested .before .fit .ensures) ∙ not-false _ (tested .if1 .left) in
+    let found : f ≡ At (own .own .given .0 .0) = own-row f _ _ _ (looked .own-row .ensures) (own .own .given .1) in
+    goes s d e (write k (a .cell) (a .value .now)) fit
     (c .before .before .replace-row .ensures
-    ∙ ap (encode _ _ _) (write-stored _ _ _ _ _ (omega arith) (omega arith)
-    (c .before .before .before .before .before .before .before .before .before .before .before .before .if5 .left)
-    (c .before .before .before .before .before .before .before .before .before .before .if6 .left) _ _ (omega arith)
-    (sym (own-row _ _ _ _ (c .before .before .before .before .before .before .before .own-row .ensures)
-    (c .before .before .before .before .before .own .given .1)))))
+    ∙ ap (encode s d e) (write-stored s d e k (a .cell) (omega arith) (omega arith) (opened .if5 .left) (staged .if6 .left)
+    (a .value .now) _ (omega arith) (sym found)))
 
 same-length-2 : tie.Need-same-length-2
 same-length-2 c = search needs
 
 returns-8 : tie.Need-returns-8
 returns-8 c =
-    goes _ _ _ _ (sym
-    (c .before .before .before .before .before .before .before .before .before .before .before .before .before .before .before .before .before .before .fit .ensures) ∙ not-false _ (c .before .before .before .before .before .before .before .before .before .before .before .before .before .before .before .before .before .if1 .left))
+    let own = c .before .before .before .before .before in
+    let looked = own .before .before in
+    let staged = looked .before .before .before in
+    let opened = staged .before .before in
+    let tested = opened .before .before .before .before .before in
+    let a = tested .before .before .before .before .before .args in
+    let s = a .store in
+    let d = a .rows .now in
+    let e = a .commits .now in
+    let k = a .client in
+    let f : Found = find (isOwn (getD (s .number) k 0) (a .cell)) 0 (rowsIn 24 (s .used) d) in
+    let fit = sym (tested .before .fit .ensures) ∙ not-false _ (tested .if1 .left) in
+    let missing : f ≡ Missing = own-rows f _ _ _ (looked .own-row .ensures) (own .own2 .given .1) .0 in
+    goes s d e (write k (a .cell) (a .value .now)) fit
     (c .before .before .add-row .ensures
-    ∙ ap (encode _ _ _) (write-stored _ _ _ _ _ (omega arith) (omega arith)
-    (c .before .before .before .before .before .before .before .before .before .before .before .before .if5 .left)
-    (c .before .before .before .before .before .before .before .before .before .before .if6 .left) _ _ (omega arith)
-    (sym (own-rows _ _ _ _ (c .before .before .before .before .before .before .before .own-row .ensures)
-    (c .before .before .before .before .before .own2 .given .1) .0))))
+    ∙ ap (encode s d e) (write-stored s d e k (a .cell) (omega arith) (omega arith) (opened .if5 .left) (staged .if6 .left)
+    (a .value .now) _ (omega arith) (sym missing)))
 
 pub write-spec : {M : Type 1} → statement M
 write-spec =
