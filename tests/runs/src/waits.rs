@@ -85,7 +85,7 @@ impl Schedule {
     }
 }
 
-/// What the proof needs, with n clients: `over-in-time` in crates/history/proofs/Ending.antt.
+/// What the proof needs, with n clients: `over-in-time` in crates/demands/proofs/Ending.antt.
 fn proved(clients: u64) -> u64 {
     3 * clients * clients + 9 * clients + 5
 }
