@@ -3,21 +3,20 @@
 -- laid out as the layout of the image it leaves (`crossed`, for a call of any kind that keeps images well-formed). A set-up that is not refused
 -- hands back the layout of the empty image. After a refused one the record has 0 rows, so that the store is unfit.
 -- Assumes nothing.
-use Prim.Native.Nat.{ℕ, zero, suc, _*_, _-_, _/_, _≤_}
+use Prim.Native.Nat.{ℕ, _-_, _/_, _≤_}
 use mathlib.Core.Path.{_≡_, refl}
 use mathlib.Core.Bool.{true, false}
 use mathlib.Core.List.{List, flatten}
 use native.Mathlib.Nat.{sub-zero}
-use borrow.Author.Tests.{le-ltb, eq-eqb}
-use lib.ListN.{length, getD}
-use Rattle.spec.specs.Set.{clients}
+use lib.ListN.{length}
 use Rattle.spec.specs.Rows.{rowsIn}
 use Rattle.spec.specs.Answers.{Answer, Refused, unfit}
 use Rattle.spec.specs.Image.{Image, empty}
 use Rattle.spec.specs.Calls.{Outcome}
-use Rattle.spec.specs.Bytes.{After, afterOf, decode, storeOf, encode, known, fits, onBytes, limitOf, accepts, setUp, Memory}
+use Rattle.spec.specs.Bytes.{After, afterOf, decode, storeOf, encode, fits, onBytes, limitOf, accepts, setUp, Memory}
 use Rattle.spec.specs.Run.{Call, perform, step}
-use Rattle.spec.proofs.Ends.{known-next, accepted}
+use Rattle.spec.proofs.Ends.{accepted}
+use Rattle.spec.proofs.AccordUnfit.{fit-if}
 use Rattle.history.proofs.Spread.{spread, length-spread, rows-spread, laid-spread}
 use Rattle.history.proofs.Wellformed.{Wellformed, Kept, perform-kept, empty-fine}
 
@@ -31,27 +30,21 @@ with m a = afterOf (m .store) (m .dataBytes) (m .commitBytes) a
 
 -- ---- one call, of any kind that keeps images well-formed
 
-known-all : (l : List ℕ) (n : ℕ) → ((j : ℕ) → getD l j 0 ≤ 13) → known l n ≡ true
-unfolding known
-known-all l zero h = refl
-known-all l (suc n) h = rw (known-next l n, le-ltb 13 (getD l n 0) (h n)) (known-all l n h)
-
 module _ (i : Image) (h : Wellformed i) where
   -- an image laid out is a fit store
   pub fits-whole : fits (encoded i .store) (length (encoded i .dataBytes)) (length (encoded i .commitBytes)) ≡ true
-  unfolding fits encoded storeOf
+  unfolding encoded storeOf
   fits-whole =
-      rw (
-        length-spread 24 (i .rows) (i .dataRows) (h .dataWide) (h .dataFit),
-        length-spread 8 (i .rows) (i .commitRows) (h .commitWide) (h .commitFit),
-        le-ltb (i .rows) 1 (h .some),
-        le-ltb 1024 (i .rows) (h .most),
-        eq-eqb (24 * i .rows) (24 * i .rows) refl,
-        eq-eqb (8 * i .rows) (8 * i .rows) refl,
-        le-ltb (i .rows) (length (i .dataRows)) (h .dataFit),
-        le-ltb (i .rows) (length (i .commitRows)) (h .commitFit),
-      )
-      (known-all (i .clients .stage) clients (h .tidy .stage .each))
+      fit-if (encoded i .store) _ _
+      (record {
+        some = h .some;
+        most = h .most;
+        dataLength = length-spread 24 (i .rows) (i .dataRows) (h .dataWide) (h .dataFit);
+        commitLength = length-spread 8 (i .rows) (i .commitRows) (h .commitWide) (h .commitFit);
+        dataRows = h .dataFit;
+        commitRows = h .commitFit;
+      })
+      (λ k q. h .tidy .stage .each k)
 
   -- and shows that image
   decode-encoded : decode (encoded i .store) (encoded i .dataBytes) (encoded i .commitBytes) ≡ i

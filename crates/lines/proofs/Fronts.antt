@@ -22,7 +22,7 @@ use Rattle.spec.specs.Run.{Call, Result, perform, step}
 use Rattle.spec.specs.Bytes.{storeOf, After, afterOf, onBytes, limitOf, accepts, setUp, Memory, memoryOf}
 use Rattle.spec.specs.Text.{formOf, freeText, answerText, refusedText, lineText}
 use Rattle.spec.specs.Session.{front, behind, resultText, said, setUpSaid, setUpResponse, response, answerTo}
-use Rattle.text.specs.Inner.{Put}
+use Rattle.printing.specs.Inner.{Put}
 use Rattle.lines.specs.Inner.{Front, Spoken, keptOf}
 
 front-take : (n r : ℕ) (b : List ℕ) → Front n (length b) r → take r b ≡ take n b

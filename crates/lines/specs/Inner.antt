@@ -9,7 +9,7 @@ use Rattle.spec.specs.declared.FigureAnswer.{FigureAnswer}
 use Rattle.spec.specs.declared.FigureAnswer.the-variants.{Answered, Refused}
 use Rattle.spec.specs.Session.{Response}
 use Rattle.spec.specs.Bytes.{Memory}
-use Rattle.text.specs.Inner.{answerRoom, Put}
+use Rattle.printing.specs.Inner.{answerRoom, Put}
 
 -- r is n, or the length of a buffer that has fewer than n bytes
 abbrev pub Front : ℕ → ℕ → ℕ → Type 0

@@ -13,7 +13,7 @@ ghost use Rattle.spec.specs.Run.{Begin, Read, Write, Advance, Abandon, Trim, Fr
 ghost use Rattle.spec.specs.Text.{valueIn};
 ghost use Rattle.spec.specs.Values.{valueFrom};
 ghost use Rattle.spec.specs.Session.{said, setUpResponse, answerTo};
-ghost use Rattle.text.specs.Inner.{answerRoom};
+ghost use Rattle.printing.specs.Inner.{answerRoom};
 ghost use Rattle.lines.specs.Inner.{Front, Spoken, keptOf};
 
 pub struct Answered {

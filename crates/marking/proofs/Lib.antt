@@ -1,5 +1,1 @@
-pub mod Later
-pub mod Stamps
-pub mod Serving
-pub mod Marking
 pub mod Trimmed

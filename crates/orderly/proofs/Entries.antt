@@ -17,7 +17,7 @@ use Rattle.spec.proofs.Rows.{rows-start, rows-step, rows-end}
 use Rattle.spec.specs.Share.{any}
 use Rattle.search.specs.Inner.{Next}
 use Rattle.search.proofs.Folds.{to-start}
-use Rattle.trimming.specs.Inner.{place}
+use Rattle.places.specs.Inner.{place}
 use Rattle.orderly.specs.Inner.{tagPlace, entryOf, rowEntry, Linked, RowEntries, Alike}
 use Rattle.spec.specs.Orderly.{isCommitOf, orderlyCommits}
 use Rattle.orderly.proofs.Nexts.{next-none, next-here, next-past, next-one}

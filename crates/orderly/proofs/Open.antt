@@ -12,7 +12,7 @@ use borrow.Author.Tests.{eq-eqb, ne-eqb}
 use Rattle.spec.specs.Rows.{rowAt, rowsIn, rowsFrom, tagOf, cellOf}
 use Rattle.spec.specs.Share.{wrote}
 use Rattle.search.specs.Inner.{Next}
-use Rattle.trimming.specs.Inner.{place}
+use Rattle.places.specs.Inner.{place}
 use Rattle.orderly.specs.Inner.{pairPlace, openPlace, Linked, Alike, PairWalk, Sole}
 use Rattle.spec.specs.Orderly.{orderlyRows}
 use Rattle.orderly.proofs.Chains.{linked-none, linked-less, chain-start, head-skip}

@@ -8,7 +8,7 @@ use lib.Dec.{eqb}
 use Rattle.spec.specs.Choice.{if_then_else_}
 use Rattle.spec.specs.Rows.{dataWidth, commitWidth, dataRowsIn, commitRowsIn, Row, rowAt, tagOf, cellOf, commitTag, rowsFrom}
 use Rattle.search.specs.Inner.{Next}
-use Rattle.trimming.specs.Inner.{place}
+use Rattle.places.specs.Inner.{place}
 use mathlib.Core.Bool.{Bool, true, false}
 use Rattle.spec.specs.Share.{wrote}
 use Rattle.spec.specs.Orderly.{orderlyRows}

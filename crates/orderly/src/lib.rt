@@ -7,7 +7,7 @@ ghost use lib.ListN.{length, getD, replicate};
 ghost use Rattle.spec.specs.Rows.{dataWidth, commitWidth, commitRowsIn, rowAt, rowsFrom, commitTag};
 ghost use Rattle.spec.specs.Share.{wrote};
 ghost use Rattle.search.specs.Inner.{Next};
-ghost use Rattle.trimming.specs.Inner.{place};
+ghost use Rattle.places.specs.Inner.{place};
 ghost use Rattle.spec.specs.Orderly.{orderlyCommits};
 ghost use Rattle.orderly.specs.Inner.{tagPlace, entryOf, RowsLinked, pairPlace, Linked, Links, Chain};
 ghost use Rattle.orderly.specs.Inner.{RowEntries, Alike, PairWalk, OpenTest};
@@ -85,7 +85,7 @@ pub fn commits_orderly(
             return false;
         }
         let tag = rows::commit_tag_at(commits, k);
-        let x = trimming::place_of(tag);
+        let x = places::place_of(tag);
         if chained_entry(commits, entries, nexts, heads[x] as usize, tag) < entries {
             return false;
         }
@@ -109,7 +109,7 @@ fn entry_of(
     requires { ⌜ Linked (tagPlace (now commits)) entries 0 (now heads) (now nexts) ⌝ }
     ensures { λ r. ⌜ r ≡ entryOf tag (commitRowsIn entries (now (commits .entry))) ⌝ }
 {
-    let x = trimming::place_of(tag);
+    let x = places::place_of(tag);
     chained_entry(commits, entries, nexts, heads[x] as usize, tag)
 }
 
@@ -224,7 +224,7 @@ fn open_plain(rows: &[u8], used: usize, entries: usize, entry: &[u16; 1024], fir
                 return false;
             }
             let tag = rows::tag_at(rows, k);
-            let x = trimming::place_of(tag);
+            let x = places::place_of(tag);
             let y = pair_place(x, cell);
             if own_chained(rows, used, &nexts, heads[y] as usize, tag, cell) {
                 return false;

@@ -1,4 +1,4 @@
-// The record by value: fitness, closing a client, set-up's tests, Trim's low.
+// The record by value: fitness, a new record, closing a client, Trim's low.
 ghost use mathlib.Core.Path.{_≡_};
 ghost use mathlib.Core.Bool.{not};
 ghost use mathlib.Core.List.{List};
@@ -9,7 +9,7 @@ ghost use Rattle.spec.specs.Choice.{if_then_else_};
 ghost use Rattle.spec.specs.Image.{closed, empty};
 ghost use Rattle.spec.specs.Calls.{low};
 ghost use Rattle.record.specs.Inner.{SmallestOpen};
-ghost use Rattle.spec.specs.Bytes.{countersIn, clientsIn, recordOf, decode, storeOf, known, fits, limitOf, accepts};
+ghost use Rattle.spec.specs.Bytes.{countersIn, clientsIn, recordOf, decode, storeOf, known, fits};
 use spec::CLIENTS;
 use spec::COMMIT_ROW;
 use spec::DATA_ROW;
@@ -115,41 +115,6 @@ pub fn close(store: Store, client: u32) -> Store
     next.requestWaits = request_waits_left;
     next.commitWaits = commit_waits_left;
     next
-}
-
-// ---- set-up
-
-// Whether set-up takes buffers of these lengths, the first number and the cell limit.
-pub fn acceptable(d: usize, c: usize, first: u32, limit: u32) -> bool
-    ensures { λ r. ⌜ r ≡ accepts d c first limit ⌝ }
-{
-    let n = d / DATA_ROW;
-    if d != DATA_ROW * n {
-        return false;
-    }
-    if n < 1 {
-        return false;
-    }
-    if 1024 < n {
-        return false;
-    }
-    if c != COMMIT_ROW * n {
-        return false;
-    }
-    if first == 0 {
-        return false;
-    }
-    limit <= 64
-}
-
-// The cell limit that 0 at set-up stands for.
-const DEFAULT_LIMIT: u32 = 8;
-
-// The cell limit that a set-up was given.
-pub fn given_limit(limit: u32) -> u32
-    ensures { λ r. ⌜ r ≡ limitOf limit ⌝ }
-{
-    if limit == 0 { DEFAULT_LIMIT } else { limit }
 }
 
 // ---- Trim

@@ -15,7 +15,7 @@ ghost use lib.ListN.{length};
 ghost use Rattle.spec.specs.Answers.{code, figureOf, beginOf, readOf, advanceOf};
 ghost use Rattle.spec.specs.Text.{str, numbered, headText, lineText, answerText, freeText, droppedText, begunText};
 ghost use Rattle.spec.specs.Text.{readingText, progressText, refusedText, hexText};
-ghost use Rattle.text.specs.Inner.{answerRoom, Put};
+ghost use Rattle.printing.specs.Inner.{answerRoom, Put};
 
 // Document 01's number of a refusal; 11 is unused.
 fn code_of(r: Refusal) -> u32
@@ -36,7 +36,7 @@ fn code_of(r: Refusal) -> u32
     }
 }
 
-// ---- the head of a line: as in crate text, each function appends to the text that ends at a place, and answers
+// ---- the head of a line: as in crate printing, each function appends to the text that ends at a place, and answers
 // where the text ends now
 
 // A word, a number and an end.
@@ -46,9 +46,9 @@ fn put_numbered(out: &mut [u8], at: usize, word: &[u8], n: u32, end: &[u8]) -> u
         r ⌝ }
     ensures { λ r. ⌜ r ≤ at + length (now (word .entry)) + 10 + length (now (end .entry)) ⌝ }
 {
-    let a = text::put(out, at, word);
-    let b = text::put_decimal(out, a, n);
-    text::put(out, b, end)
+    let a = printing::put(out, at, word);
+    let b = printing::put_decimal(out, a, n);
+    printing::put(out, b, end)
 }
 
 // A keyword and a client.
@@ -82,7 +82,7 @@ fn put_head(out: &mut [u8], at: usize, form: Form) -> usize
             rows: _,
             first: _,
             limit: _,
-        } => text::put(out, at, b"(set-up "),
+        } => printing::put(out, at, b"(set-up "),
         Form::Begin(client) => put_client(out, at, b"(begin ", client),
         Form::Read(client, cell) => put_cell(out, at, b"(read ", client, cell),
         Form::Write {
@@ -92,9 +92,9 @@ fn put_head(out: &mut [u8], at: usize, form: Form) -> usize
         } => put_cell(out, at, b"(write ", client, cell),
         Form::Advance(client) => put_client(out, at, b"(advance ", client),
         Form::Abandon(client) => put_client(out, at, b"(abandon ", client),
-        Form::Trim => text::put(out, at, b"(trim "),
-        Form::Free => text::put(out, at, b"(free "),
-        Form::Other => text::put(out, at, b"(line "),
+        Form::Trim => printing::put(out, at, b"(trim "),
+        Form::Free => printing::put(out, at, b"(free "),
+        Form::Other => printing::put(out, at, b"(line "),
     }
 }
 
@@ -132,9 +132,9 @@ fn value_line(out: &mut [u8], at: usize, form: Form, value: &[u8]) -> usize
     ensures { λ r. ⌜ r ≤ at + answerRoom ⌝ }
 {
     let a = put_head(out, at, form);
-    let b = text::put(out, a, b"(value ");
-    let c = text::put_hex(out, b, value);
-    text::put(out, c, b"))\n")
+    let b = printing::put(out, a, b"(value ");
+    let c = printing::put_hex(out, b, value);
+    printing::put(out, c, b"))\n")
 }
 
 pub fn refused_line(out: &mut [u8], at: usize, form: Form, number: u32) -> usize
@@ -202,7 +202,7 @@ pub fn reading_line(
             Reading::Value(_) => value_line(out, at, form, value),
             Reading::Unwritten => {
                 let a = put_head(out, at, form);
-                text::put(out, a, b"(unwritten))\n")
+                printing::put(out, a, b"(unwritten))\n")
             }
         },
         ReadAnswer::Refused(r) => refused_line(out, at, form, code_of(r)),

@@ -10,7 +10,7 @@ use mathlib.Core.Logic.{_⊎_}
 use lib.ListN.{length, take, drop}
 use Rattle.spec.specs.Session.{memoryAfter, answers, initial}
 use Rattle.spec.specs.Bytes.{Memory}
-use Rattle.text.specs.Inner.{answerRoom}
+use Rattle.printing.specs.Inner.{answerRoom}
 
 -- ---- The lines of an input that end in a newline, and what stands behind the last of them.
 

@@ -1,7 +1,7 @@
 // The answers to the whole lines of a chunk of input, and what is kept of the line that it leaves begun.
 // Definitions: crate spec, specs/Session.antt.
+use printing::ANSWER_ROOM;
 use spec::Store;
-use text::ANSWER_ROOM;
 ghost use mathlib.Core.Path.{_≡_};
 ghost use Prim.Native.Nat.{_-_, _≤_};
 ghost use lib.ListN.{length, take, drop};

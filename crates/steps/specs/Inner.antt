@@ -6,11 +6,7 @@ use mathlib.Core.List.{List}
 use Rattle.spec.specs.Rows.{dataWidth, layout}
 use Rattle.spec.specs.declared.Store.{Store}
 use Rattle.spec.specs.Calls.{removed}
-use Rattle.spec.specs.Bytes.{Memory, decode, storeOf}
-use lib.ListN.{getD}
-use Rattle.spec.specs.declared.AdvanceTurn.{AdvanceTurn}
-use Rattle.spec.specs.Steps.{steps, noStep}
-use Rattle.queues.specs.Inner.{StepDone}
+use Rattle.spec.specs.Bytes.{decode, storeOf}
 
 -- ---- What removing a client's data rows and closing it leaves, for the promise of `remove`, which Abandon and the check share.
 
@@ -18,7 +14,3 @@ use Rattle.queues.specs.Inner.{StepDone}
 pub record Removed (k : ℕ) (s : Store) (d : List ℕ) (s′ : Store) (d′ : List ℕ) : Type 0 where
   pub store : (c : List ℕ) → s′ ≡ storeOf (removed k (decode s d c))
   pub bytes : (c : List ℕ) → d′ ≡ layout dataWidth (s .used) (removed k (decode s d c) .dataRows) d
-
--- of the one step that the stage of client k calls for
-abbrev pub StepDue : ℕ → Memory → AdvanceTurn → List ℕ → List ℕ → Type 0
-StepDue k m t d′ c′ = StepDone (getD steps (getD (m .store .stage) k 0) noStep k) m t d′ c′

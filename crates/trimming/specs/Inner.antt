@@ -1,6 +1,6 @@
 -- What the contracts of inner functions need beyond the words of the papers: nobody has to believe it.
 -- Assumes nothing.
-use Prim.Native.Nat.{ℕ, suc, _*_, _/_, _%_, _≤_, _<_}
+use Prim.Native.Nat.{ℕ, _<_}
 use mathlib.Core.List.{List}
 use Rattle.spec.specs.Rows.{dataWidth, commitWidth, dataRowsIn, commitRowsIn, Row, rowAt, tagOf}
 use Rattle.removal.specs.Inner.{Left}
@@ -21,18 +21,6 @@ use Rattle.spec.specs.declared.Number.the-variants.{Some, None}
 pub record Trimmed (low n m : ℕ) (s c s′ c′ : List ℕ) (n′ m′ : ℕ) : Type 0 where
   pub data-rows : Left dataWidth n (trimmedRows low (dataRowsIn n s) (commitRowsIn m c)) s s′ n′
   pub commit-rows : Left commitWidth m (trimmedCommits (trimmedRows low (dataRowsIn n s) (commitRowsIn m c)) (commitRowsIn m c)) c c′ m′
-
--- ---- A table in which rows are found by their tags, for the inner functions' promises.
-
--- a tag's place among 4,096: the multiplier is odd and near 2 ^ 32 divided by the golden ratio, so that tags in a row, or apart by equal steps, spread
-unfoldable pub place : ℕ → ℕ
-place tag = tag * 2654435769 / 1048576 % 4096
-
--- at each place, one more than the number of the first of n rows whose tag has that place, and 0 where there is none
-pub record Places (tag : ℕ → ℕ) (n : ℕ) (places : List ℕ) : Type 0 where
-  pub within : (x : ℕ) → getD places x 0 ≤ n
-  pub filled : (k : ℕ) → k < n → getD places (place (tag k)) 0 ≡ 0 → ⊥
-  pub first : (x k : ℕ) → suc k < getD places x 0 → place (tag k) ≡ x → ⊥
 
 -- ---- What a trim notes of the data rows before it judges them, for the inner functions' promises.
 

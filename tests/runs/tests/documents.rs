@@ -69,32 +69,45 @@ fn every_edit_has_its_sentence() {
     assert!(there.len() >= 195);
 }
 
-/// A name like `spec/Rows: cells`, `spec/proofs/Accord: wait-first` or `crates/spec/specs/Rows.antt` is that of a file that is there and has the
-/// names; one like `rows::append_row` that of a function, a type or a constant.
+/// What a source file of Rattle declares or passes on.
+fn declared(source: &str) -> BTreeSet<&str> {
+    let mut names = BTreeSet::new();
+    for line in source.lines() {
+        let line = line.trim_start_matches("pub ");
+        let item = ["fn ", "struct ", "enum ", "const ", "type "].iter().find_map(|kind| line.strip_prefix(kind));
+        let passed_on = line.strip_prefix("use ").and_then(|path| path.rsplit("::").next());
+        names.extend(item.or(passed_on).and_then(|rest| rest.split(|c: char| !(c.is_alphanumeric() || c == '_')).next()));
+    }
+    names
+}
+
+/// Where a page's name leads, and what has to stand there: `spec/Rows: cells`, `spec/proofs/Accord: wait-first` or `crates/spec/specs/Rows.antt` to a
+/// file of definitions or proofs, `rows::append_row` to the source of a crate.
+fn leads_to<'a>(item: &'a str, crates: &BTreeSet<String>) -> Option<(String, &'a str)> {
+    let path = item.strip_prefix("crates/").unwrap_or(item);
+    let (place, names) = path.split_once(": ").unwrap_or((path, ""));
+    if let Some((owner, name)) = path.split_once("::").filter(|(owner, _)| crates.contains(*owner)) {
+        let file = if owner == "step" { "main" } else { "lib" };
+        return Some((format!("crates/{owner}/src/{file}.rt"), name.split('(').next().unwrap()));
+    }
+    let (owner, file) = place.split_once('/').filter(|(owner, _)| crates.contains(*owner))?;
+    let (folder, file) = file.split_once('/').unwrap_or(("specs", file));
+    let named = file.starts_with(|c: char| c.is_ascii_uppercase()) && !file.ends_with('…');
+    named.then(|| (format!("crates/{owner}/{folder}/{}.antt", file.trim_end_matches(".antt")), names))
+}
+
+/// What the pages name is there.
 #[test]
 fn what_the_pages_name_is_there() {
     let crates = crates();
     let (mut files, mut functions, mut missing) = (0, 0, Vec::new());
     for page in PAGES {
         for item in quoted(&text(page)).into_iter().flatten() {
-            let path = item.strip_prefix("crates/").unwrap_or(&item);
-            let (place, names) = path.split_once(": ").unwrap_or((path, ""));
-            let (there, names) = if let Some((owner, name)) = path.split_once("::").filter(|(owner, _)| crates.contains(*owner)) {
-                functions += 1;
-                (format!("crates/{owner}/src/{}.rt", if owner == "step" { "main" } else { "lib" }), name.split('(').next().unwrap())
-            } else if let Some((owner, file)) = place.split_once('/').filter(|(owner, _)| crates.contains(*owner)) {
-                let file = file.strip_suffix(".antt").unwrap_or(file);
-                let (folder, file) = file.split_once('/').unwrap_or(("specs", file));
-                if !file.starts_with(|c: char| c.is_ascii_uppercase()) || file.ends_with('…') {
-                    continue;
-                }
-                files += 1;
-                (format!("crates/{owner}/{folder}/{file}.antt"), names)
-            } else {
-                continue;
-            };
-            let there = fs::read_to_string(at(&there)).unwrap_or_default();
-            if there.is_empty() || !words(names).is_subset(&words(&there)) {
+            let Some((place, names)) = leads_to(&item, &crates) else { continue };
+            let there = fs::read_to_string(at(&place)).unwrap_or_default();
+            let known = if place.ends_with(".rt") { declared(&there) } else { words(&there) };
+            *(if place.ends_with(".rt") { &mut functions } else { &mut files }) += 1;
+            if there.is_empty() || !words(names).is_subset(&known) {
                 missing.push(format!("{page}: `{item}`"));
             }
         }

@@ -10,10 +10,10 @@ use Rattle.search.specs.Inner.{Next}
 use Rattle.orderly.specs.Inner.{rowEntry}
 use Rattle.spec.specs.Orderly.{orderlyCommits, orderlyRows}
 use Rattle.spec.specs.Marked.{Marks}
-use Rattle.marking.specs.Inner.{Judged, Used}
+use Rattle.serving.specs.Inner.{Judged, Used}
 use Rattle.orderly.proofs.Order.{differ, disorder-commits, disorder-rows, order-decided}
 use Rattle.orderly.proofs.Entries.{entries-alike, entries-open}
-use Rattle.marking.proofs.Marking.{marks-start, plain-start, judged-start, used-start, all-plain}
+use Rattle.serving.proofs.Marking.{marks-start, plain-start, judged-start, used-start, all-plain}
 use Rattle.marking.proofs.from_newest.Statement.{statement}
 use Rattle.marking.proofs.from_newest.Tie as tie
 

@@ -6,7 +6,7 @@ use native.Mathlib.Omega.{arith}
 use lib.ListN.{getD}
 use Rattle.spec.specs.Rows.{rowAt, commitTag}
 use Rattle.search.proofs.Passes.{miss-more}
-use Rattle.trimming.specs.Inner.{place}
+use Rattle.places.specs.Inner.{place}
 use Rattle.orderly.specs.Inner.{tagPlace, Chain}
 use Rattle.orderly.proofs.Chains.{chain-more, chain-rises, chain-carry}
 use Rattle.orderly.proofs.chained_entry.Statement.{statement}

@@ -10,7 +10,7 @@ use native.Mathlib.Omega.{arith}
 use Rattle.spec.specs.Rows.{rowAt, rowsFrom, commitTag, commitNumber}
 use Rattle.spec.proofs.Rows.{rows-start}
 use Rattle.spec.specs.Share.{any}
-use Rattle.trimming.specs.Inner.{place}
+use Rattle.places.specs.Inner.{place}
 use Rattle.orderly.specs.Inner.{tagPlace, Linked, Chain}
 use Rattle.spec.specs.Orderly.{under, isCommitOf, orderlyCommits}
 use Rattle.orderly.proofs.Chains.{linked-none, chain-start}

@@ -3,7 +3,7 @@ use Prim.Native.Nat.{_<_}
 use lib.ListN.{getD}
 use borrow.Author.Needs.{needs}
 use native.Mathlib.Omega.{arith}
-use Rattle.trimming.specs.Inner.{place}
+use Rattle.places.specs.Inner.{place}
 use Rattle.orderly.specs.Inner.{tagPlace, Chain}
 use Rattle.orderly.proofs.Chains.{chain-start}
 use Rattle.orderly.proofs.Nexts.{next-one}

@@ -3,7 +3,7 @@ use borrow.Author.Needs.{needs}
 use mathlib.Core.List.{[], _∷_}
 use native.Mathlib.Omega.{arith}
 use Rattle.spec.specs.Text.{lineText}
-use Rattle.text.proofs.Texts.{put-then}
+use Rattle.printing.proofs.Texts.{put-then}
 use Rattle.reply.proofs.Ends.{numbered-end}
 use Rattle.reply.proofs.number_line.Statement.{statement}
 use Rattle.reply.proofs.number_line.Tie as tie

@@ -1,7 +1,7 @@
 -- Two texts, one behind the other. Assumes nothing.
 use borrow.Author.Needs.{needs}
 use native.Mathlib.Omega.{arith}
-use Rattle.text.proofs.Texts.{put-then}
+use Rattle.printing.proofs.Texts.{put-then}
 use Rattle.reply.proofs.put_cell.Statement.{statement}
 use Rattle.reply.proofs.put_cell.Tie as tie
 

@@ -2,7 +2,7 @@
 use borrow.Author.Needs.{needs}
 use native.Mathlib.Omega.{arith}
 use Rattle.spec.specs.Text.{numbered}
-use Rattle.text.proofs.Texts.{put-then}
+use Rattle.printing.proofs.Texts.{put-then}
 use Rattle.reply.proofs.put_numbered.Statement.{statement}
 use Rattle.reply.proofs.put_numbered.Tie as tie
 

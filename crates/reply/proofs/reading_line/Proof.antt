@@ -2,7 +2,7 @@
 use borrow.Author.Needs.{needs}
 use native.Mathlib.Omega.{arith}
 use Rattle.spec.specs.Text.{lineText}
-use Rattle.text.proofs.Texts.{put-then}
+use Rattle.printing.proofs.Texts.{put-then}
 use Rattle.reply.proofs.reading_line.Statement.{statement}
 use Rattle.reply.proofs.reading_line.Tie as tie
 

@@ -3,7 +3,7 @@ use borrow.Author.Needs.{needs}
 use mathlib.Core.List.{append-assoc}
 use native.Mathlib.Omega.{arith}
 use Rattle.spec.specs.Text.{lineText}
-use Rattle.text.proofs.Texts.{put-then, hex-length}
+use Rattle.printing.proofs.Texts.{put-then, hex-length}
 use Rattle.reply.proofs.value_line.Statement.{statement}
 use Rattle.reply.proofs.value_line.Tie as tie
 

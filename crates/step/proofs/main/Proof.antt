@@ -17,11 +17,11 @@ use Rattle.step.proofs.main.Statement.{statement}
 use Rattle.step.proofs.main.Tie as tie
 
 abbrev Inv-loop : tie.InvT-loop
-Inv-loop rows₀ commits₀ buf₀ out₀ store₀ have₀ turns₀ rows commits buf out store have turns =
+Inv-loop rows₀ commits₀ buf₀ out₀ store₀ have₀ left₀ rows commits buf out store have left =
     (have ≤ 81) × ProgramAt (memoryOf store rows commits) (take have buf)
 
 abbrev μ-loop : tie.MeasureT-loop
-μ-loop rows₀ commits₀ buf₀ out₀ store₀ have₀ turns₀ rows commits buf out store have turns = turns
+μ-loop rows₀ commits₀ buf₀ out₀ store₀ have₀ left₀ rows commits buf out store have left = left
 
 from-start : {s : Store} → s ≡ storeOf (empty 0 0 0) → ProgramAt (memoryOf s (replicate 24576 0) (replicate 8192 0)) []
 unfolding initial

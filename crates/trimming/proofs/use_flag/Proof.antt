@@ -4,8 +4,8 @@ use mathlib.Core.Path.{_≡_, sym, _∙_}
 use lib.ListN.{getD}
 use borrow.Author.Needs.{needs}
 use native.Mathlib.Omega.{arith}
-use Rattle.trimming.specs.Inner.{place}
-use Rattle.trimming.proofs.Places.{at-most, row-found, row-nowhere, row-missed}
+use Rattle.places.specs.Inner.{place}
+use Rattle.places.proofs.Places.{at-most, row-found, row-nowhere, row-missed}
 use Rattle.trimming.proofs.use_flag.Statement.{statement}
 use Rattle.trimming.proofs.use_flag.Tie as tie
 

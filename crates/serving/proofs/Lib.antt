@@ -1,0 +1,4 @@
+pub mod Later
+pub mod Stamps
+pub mod Serving
+pub mod Marking

@@ -1,0 +1,32 @@
+-- What a Trim leaves, by the facts that its code has found.
+-- Assumes nothing.
+use Prim.Native.Nat.{ℕ, _-_, _≤_}
+use mathlib.Core.Path.{_≡_}
+use mathlib.Core.List.{List}
+use native.Mathlib.Omega.{arith}
+use Rattle.spec.specs.Rows.{rowsIn}
+use Rattle.spec.proofs.Rows.{length-rows, filter-fewer}
+use Rattle.spec.specs.Trim.{stays, inUse, trimmedRows, trimmedCommits}
+use Rattle.trimming.specs.Inner.{Trimmed}
+use Rattle.spec.specs.declared.Store.{Store}
+use Rattle.spec.specs.Answers.{Answered}
+use Rattle.spec.specs.Calls.{low, trimmedTo, trim}
+use Rattle.spec.specs.Bytes.{countersIn, clientsIn, recordOf, decode, storeOf, afterOf, encode}
+use Rattle.spec.proofs.Ends.{ends}
+
+module _ (s : Store) (d c : List ℕ) where
+  pub trim-ends : (l n m : ℕ) (d′ c′ : List ℕ) → l ≡ low (decode s d c) → Trimmed l (s .used) (s .entries) d c d′ c′ n m
+      → afterOf (recordOf (s .rows) (s .limit) (countersIn s) (clientsIn s) n m) d′ c′ (Answered (s .used - n)) ≡ encode s d c (trim (decode s d c))
+  unfolding trim trimmedTo decode storeOf
+  trim-ends l n m d′ c′ e t =
+      rw (← e)
+      (ends s d c _ _ _ _ _ (rw (t .data-rows .rows, t .commit-rows .rows)) (t .data-rows .bytes) (t .commit-rows .bytes)
+      (rw (t .data-rows .rows, length-rows 24 (s .used) d)))
+
+-- a trim leaves no more rows than there were
+pub trimmed-fewer : (l n m : ℕ) (d c d′ c′ : List ℕ) (n′ m′ : ℕ) → Trimmed l n m d c d′ c′ n′ m′ → (n′ ≤ n) × (m′ ≤ m)
+unfolding trimmedRows trimmedCommits
+trimmed-fewer l n m d c d′ c′ n′ m′ t = (
+  omega (arith, t .data-rows .rows, filter-fewer (stays l (rowsIn 24 n d) (rowsIn 8 m c)) (rowsIn 24 n d), length-rows 24 n d),
+  omega (arith, t .commit-rows .rows, filter-fewer (inUse (trimmedRows l (rowsIn 24 n d) (rowsIn 8 m c))) (rowsIn 8 m c), length-rows 8 m c),
+)
