@@ -60,8 +60,8 @@ module _ {n : ℕ} where
   runs-keep st s [] g o x = x
   runs-keep st s (r ∷ rs) g o x = runs-keep st (run s r) rs (run-grown s r g (o .0)) (o .1) (run-keeps st s r g (o .0) x)
 
-  pub stays : {X : Image → Type 0} → Stable n X → (k : ℕ) (s : Image) → Grown n s → X s → Following n k X s
-  stays st k s g x = record { at = λ rs e o h. runs-keep st s rs g o x }
+  pub following-stays : {X : Image → Type 0} → Stable n X → (k : ℕ) (s : Image) → Grown n s → X s → Following n k X s
+  following-stays st k s g x = record { at = λ rs e o h. runs-keep st s rs g o x }
 
   -- ---- one after the other
 
@@ -80,10 +80,10 @@ module _ {n : ℕ} where
   -- what follows at once
   pub so : {X Y : Image → Type 0} → Stable n Y → (k : ℕ) (s : Image) → Grown n s → Following n k X s → ((t : Image) → Grown n t → X t → Y t)
       → Following n k Y s
-  so st k s g a f = andThen k 0 k (omega arith) s g a (λ t i x. stays st 0 t i (f t i x))
+  so st k s g a f = andThen k 0 k (omega arith) s g a (λ t i x. following-stays st 0 t i (f t i x))
 
-  pub later : {X : Image → Type 0} → Stable n X → (j m : ℕ) → j ≤ m → (s : Image) → Grown n s → Following n j X s → Following n m X s
-  later st j m h s g a = andThen j (m - j) m (omega arith) s g a (λ t i x. stays st (m - j) t i x)
+  pub following-later : {X : Image → Type 0} → Stable n X → (j m : ℕ) → j ≤ m → (s : Image) → Grown n s → Following n j X s → Following n m X s
+  following-later st j m h s g a = andThen j (m - j) m (omega arith) s g a (λ t i x. following-stays st (m - j) t i x)
 
   pub every : {I : Type 0} {X : I → Image → Type 0} (k : ℕ) (s : Image) → ((i : I) → Following n k (X i) s) → Following n k (λ t. (i : I) → X i t) s
   every k s f = record { at = λ rs l o h i. f i .at rs l o h }

@@ -19,7 +19,7 @@ use Rattle.history.proofs.AllCalls.{observed-by}
 use Rattle.demands.specs.Rounds.{serves}
 use Rattle.history.proofs.Effects.{Side, phaseOf, numberOn, listOf, Tick}
 use Rattle.demands.proofs.Grown.{next, client, Grown, is-below}
-use Rattle.demands.proofs.AfterRounds.{Following, Stable, Hit, stays, andThen, so, later, every, both, one-round}
+use Rattle.demands.proofs.AfterRounds.{Following, Stable, Hit, following-stays, andThen, so, following-later, every, both, one-round}
 
 -- ---- a queue of the store
 
@@ -77,8 +77,8 @@ abbrev pub ahead : ℕ → Side → Image → ℕ → ℕ
 ahead n q s m = sum n (λ b. one (ahead? q s m b))
 
 module _ {n : ℕ} {q : Side} (line : Line n q) where
-  pub counts : (s : Image) (c : Call) → Grown n s → counter q s ≤ counter q (next s c)
-  counts s c g = line .tick s c g .counter
+  pub counter-rises : (s : Image) (c : Call) → Grown n s → counter q s ≤ counter q (next s c)
+  counter-rises s c g = line .tick s c g .counter
 
   -- who holds a number after a call held it before, and is no less far
   pub held : (s : Image) (c : Call) → Grown n s → (b m : ℕ) → m ≤ counter q s → HasNumber q b m (next s c)
@@ -87,21 +87,21 @@ module _ {n : ℕ} {q : Side} (line : Line n q) where
 
   far-stable : (b m k : ℕ) → Stable n (Far q b m k)
   far-stable b m k s c g o x =
-      (omega (arith, counts s c g, x .0), λ h. let w = held s c g b m (x .0) h in let y = x .1 (w .0) in omega arith)
+      (omega (arith, counter-rises s c g, x .0), λ h. let w = held s c g b m (x .0) h in let y = x .1 (w .0) in omega arith)
 
   pub gone-stable : (b m : ℕ) → Stable n (Gone q b m)
-  gone-stable b m s c g o x = (omega (arith, counts s c g, x .0), λ h. x .1 (held s c g b m (x .0) h .0))
+  gone-stable b m s c g o x = (omega (arith, counter-rises s c g, x .0), λ h. x .1 (held s c g b m (x .0) h .0))
 
   seen-stable : (b m i x : ℕ) → Stable n (Follows q b m i x)
   seen-stable b m i x s c g o y = (
-    omega (arith, counts s c g, y .0),
+    omega (arith, counter-rises s c g, y .0),
     λ h. let w = held s c g b m (y .0) h in let z = y .1 (w .0) in
         (omega arith, λ e. let v = line .tick s c g .lists b x (z .0) (h .0) (omega arith) e in let u = z .1 (v .0) in omega arith),
   )
 
   least-stable : (m : ℕ) → Stable n (Least q m)
   least-stable m s c g o x =
-      (omega (arith, counts s c g, x .0), λ y h. by-cases (decLe m (ticket q (next s c) y)) (λ k. k) (λ k. absurd (smaller y h k)))
+      (omega (arith, counter-rises s c g, x .0), λ y h. by-cases (decLe m (ticket q (next s c) y)) (λ k. k) (λ k. absurd (smaller y h k)))
     where
       smaller : (y : ℕ) → 2 ≤ phase q (next s c) y → (m ≤ ticket q (next s c) y → ⊥) → ⊥
       smaller y h k = let t = line .tick s c g .back y h (omega (arith, x .0)) in let z = x .1 y (t .0) in omega arith
@@ -113,11 +113,11 @@ module _ {n : ℕ} {q : Side} (line : Line n q) where
   far-up b m k l u s g x =
       by-cases (decLe 2 (phase q s b))
       (λ h. one-round b (far-stable b m k) (far-stable b m (suc k)) hit s g x (line .within s g b (omega arith)))
-      (λ h. stays (far-stable b m (suc k)) 1 s g (x .0, λ y. absurd (h (y .0))))
+      (λ h. following-stays (far-stable b m (suc k)) 1 s g (x .0, λ y. absurd (h (y .0))))
     where
       hit : Hit n b (Far q b m k) (Far q b m (suc k))
       hit s c g o x d = (
-        omega (arith, counts s c g, x .0),
+        omega (arith, counter-rises s c g, x .0),
         λ h. let w = held s c g b m (x .0) h in let y = x .1 (w .0) in
             by-cases (decLe (phase q s b) 3)
             (λ z. elim (line .rises s c g b d (omega arith) z) [ inl r ↦ omega arith | inr r ↦ absurd (omega arith) ])
@@ -129,11 +129,11 @@ module _ {n : ℕ} {q : Side} (line : Line n q) where
   seen-up b m i x l u s g y =
       by-cases (decLe 1 (phase q s x))
       (λ h. one-round x (seen-stable b m i x) (seen-stable b m (suc i) x) hit s g y (line .within s g x h))
-      (λ h. stays (seen-stable b m (suc i) x) 1 s g (y .0, λ w. (y .1 w .0, λ e. absurd (h (let z = y .1 w .1 e in omega arith)))))
+      (λ h. following-stays (seen-stable b m (suc i) x) 1 s g (y .0, λ w. (y .1 w .0, λ e. absurd (h (let z = y .1 w .1 e in omega arith)))))
     where
       hit : Hit n x (Follows q b m i x) (Follows q b m (suc i) x)
       hit s c g o y d = (
-        omega (arith, counts s c g, y .0),
+        omega (arith, counter-rises s c g, y .0),
         λ h. let w = held s c g b m (y .0) h in let z = y .1 (w .0) in (
           omega arith,
           λ e. let v = line .tick s c g .lists b x (z .0) (h .0) (omega arith) e in let k = z .1 (v .0) in
@@ -161,7 +161,7 @@ module _ {n : ℕ} {q : Side} (line : Line n q) where
   pass b m s g x =
       by-cases (decLe 2 (phase q s b))
       (λ h. one-round b stable (far-stable b m 5) hit s g x (line .within s g b (omega arith)))
-      (λ h. stays (far-stable b m 5) 1 s g (x .1 .0, λ y. absurd (h (y .0))))
+      (λ h. following-stays (far-stable b m 5) 1 s g (x .1 .0, λ y. absurd (h (y .0))))
     where
       stable : Stable n (Passes b m)
       stable s c g o y = (λ x. seen-stable b m 3 x s c g o (y .0 x), least-stable m s c g o (y .1))
@@ -174,7 +174,7 @@ module _ {n : ℕ} {q : Side} (line : Line n q) where
 
       hit : Hit n b (Passes b m) (Far q b m 5)
       hit s c g o y d = (
-        omega (arith, counts s c g, y .1 .0),
+        omega (arith, counter-rises s c g, y .1 .0),
         λ h. let w = held s c g b m (y .1 .0) h in let z = y .0 0 .1 (w .0) in
             by-cases (ℕ-discrete (phase q s b) 4)
             (λ f. elim (line .passes s c g b d f (larger s g (w .0) y)) [ inl r ↦ r | inr r ↦ absurd (omega arith) ])
@@ -211,12 +211,12 @@ module _ {n : ℕ} {q : Side} (line : Line n q) where
     first : (b m k : ℕ) → 4 ≤ k → (s : Image) → Grown n s → m ≤ counter q s → Following n k (Least q m) s → Following n (k + suc ex) (Gone q b m) s
     first b m k h s g l a =
         andThen k (suc ex) (k + suc ex) refl s g
-        (both k s (later (λ s c g o y x. seen-stable b m 3 x s c g o (y x)) 4 k h s g (ready b m s g l)) a)
+        (both k s (following-later (λ s c g o y x. seen-stable b m 3 x s c g o (y x)) 4 k h s g (ready b m s g l)) a)
         (λ t i y. andThen 1 ex (suc ex) (omega arith) t i (pass b m t i y) (λ t i y. leaves t i b m y))
 
     pub drains : (j : ℕ) (s : Image) → Grown n s → (b m : ℕ) → m ≤ counter q s → ahead n q s m ≤ j → Following n (cost ex j) (Gone q b m) s
     unfolding cost
-    drains zero s g b m l h = first b m 4 (omega arith) s g l (stays (least-stable m) 4 s g (l, least))
+    drains zero s g b m l h = first b m 4 (omega arith) s g l (following-stays (least-stable m) 4 s g (l, least))
       where
         least : (x : ℕ) → 2 ≤ phase q s x → m ≤ ticket q s x
         least x k = by-cases (decLe m (ticket q s x)) (λ z. z) (λ z. absurd (
@@ -239,8 +239,8 @@ module _ {n : ℕ} {q : Side} (line : Line n q) where
             (every (cost ex j) s (λ x. every (cost ex j) s (λ m′. every (cost ex j) s (λ (u : m′ < m).
             by-cases (Dec·and (decLe 2 (phase q s x)) (ℕ-discrete (ticket q s x) m′))
             (λ y. rec x m′ (omega arith) (fewer x m′ u y))
-            (λ y. stays (gone-stable x m′) (cost ex j) s g (omega arith, y))))))
-            (stays (far-stable b m 0) (cost ex j) s g (l, λ _. omega arith)))
+            (λ y. following-stays (gone-stable x m′) (cost ex j) s g (omega arith, y))))))
+            (following-stays (far-stable b m 0) (cost ex j) s g (l, λ _. omega arith)))
             (λ t i y. (
               y .1 .0,
               λ x k. by-cases (decLe m (ticket q t x)) (λ z. z) (λ z. absurd (y .0 x (ticket q t x) (omega arith) .1 (k, refl))),

@@ -16,7 +16,7 @@ use Rattle.history.proofs.AllCalls.{observed-by}
 use Rattle.demands.specs.Rounds.{AllBelow, Fate, StillOpen, Closed, Abandoned, fateBy, earlier, roundLimit}
 use Rattle.demands.proofs.Changes.{Remains, remains, goes-up, goes-out, stays-R, stays-C}
 use Rattle.demands.proofs.Grown.{next, client, Grown, is-open, changed, does, gets, grows}
-use Rattle.demands.proofs.AfterRounds.{run, Following, Stable, Hit, stays, andThen, so, later, both, one-round}
+use Rattle.demands.proofs.AfterRounds.{run, Following, Stable, Hit, following-stays, andThen, so, following-later, both, one-round}
 use Rattle.demands.proofs.Queues.{requested}
 
 -- ---- the limit
@@ -68,7 +68,7 @@ module _ (n b t : ℕ) (pos : 1 ≤ t) where
   numbered s g x =
       by-cases (ℕ-discrete (client s b .number) t)
       (λ e. one-round b (past-stable 1) (past-stable 2) hit s g x (x .1 e))
-      (λ e. stays (past-stable 2) 1 s g (x .0, λ y. absurd (e y)))
+      (λ e. following-stays (past-stable 2) 1 s g (x .0, λ y. absurd (e y)))
     where
       hit : Hit n b (Past b t 1) (Past b t 2)
       hit s c g o x d =
@@ -92,13 +92,13 @@ module _ (n b t : ℕ) (pos : 1 ≤ t) where
       so over-stable (4 + n * (3 * n + 9)) s g
       (both (4 + n * (3 * n + 9)) s
       (requested n s g b (omega arith))
-      (stays (asks-stable (client s b .request)) (4 + n * (3 * n + 9)) s g (x .0, λ _. (y, refl))))
+      (following-stays (asks-stable (client s b .request)) (4 + n * (3 * n + 9)) s g (x .0, λ _. (y, refl))))
       (λ u j w. (w .1 .0, λ i. let z = w .1 .1 i in w .0 .1 (omega (arith, z .0), z .1))))
-      (λ e. stays over-stable (4 + n * (3 * n + 9)) s g (x .0, e))
+      (λ e. following-stays over-stable (4 + n * (3 * n + 9)) s g (x .0, e))
 
   pub over-in-time : (k : ℕ) → roundLimit n ≤ k → (s : Image) → Grown n s → Past b t 1 s → Following n k (Over b t) s
   over-in-time k l s g x =
-      later over-stable (5 + n * (3 * n + 9)) k (omega (arith, enough n)) s g
+      following-later over-stable (5 + n * (3 * n + 9)) k (omega (arith, enough n)) s g
       (andThen 1 (4 + n * (3 * n + 9)) (5 + n * (3 * n + 9)) (omega arith) s g (numbered s g x) over-then)
 
 -- ---- its fate, on images

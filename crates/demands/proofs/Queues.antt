@@ -17,8 +17,8 @@ use Rattle.history.proofs.View.{view}
 use Rattle.history.proofs.Effects.{Side, requestSide, commitSide, out-of-commits, phases}
 use Rattle.demands.proofs.Changes.{goes-up, goes-out, stays-R, stays-C}
 use Rattle.demands.proofs.Grown.{next, client, Grown, inv, at-most-13, does, gets, same-after}
-use Rattle.demands.proofs.AfterRounds.{Following, Stable, Hit, stays, andThen, so, both, one-round}
-use Rattle.demands.proofs.Drain.{phase, ticket, list, counter, Line, HasNumber, Far, Gone, counts, held, gone-stable, ahead-less, cost-is, drains}
+use Rattle.demands.proofs.AfterRounds.{Following, Stable, Hit, following-stays, andThen, so, both, one-round}
+use Rattle.demands.proofs.Drain.{phase, ticket, list, counter, Line, HasNumber, Far, Gone, counter-rises, held, gone-stable, ahead-less, cost-is, drains}
 
 -- ---- the queues as lines
 
@@ -90,7 +90,7 @@ Come q b m k s = (m ≤ counter q s) × (HasNumber q b m s → k ≤ client s b 
 module _ {n : ℕ} {q : Side} (line : Line n q) (above : (k : ℕ) → 2 ≤ q .phase k → 2 ≤ k) where
   come-stable : (b m k : ℕ) → Stable n (Come q b m k)
   come-stable b m k s c g o x = (
-    omega (arith, counts line s c g, x .0),
+    omega (arith, counter-rises line s c g, x .0),
     λ h. let y = x .1 (held line s c g b m (x .0) h .0) in let z = same-after s c g o b (above _ (h .0)) .stage in omega arith,
   )
 
@@ -99,11 +99,11 @@ module _ {n : ℕ} {q : Side} (line : Line n q) (above : (k : ℕ) → 2 ≤ q .
   come-up b m k n4 n10 s g x =
       by-cases (decLe 2 (phase q s b))
       (λ h. one-round b (come-stable b m k) (come-stable b m (suc k)) hit s g x (line .within s g b (omega arith)))
-      (λ h. stays (come-stable b m (suc k)) 1 s g (x .0, λ y. absurd (h (y .0))))
+      (λ h. following-stays (come-stable b m (suc k)) 1 s g (x .0, λ y. absurd (h (y .0))))
     where
       hit : Hit n b (Come q b m k) (Come q b m (suc k))
       hit s c g o x d = (
-        omega (arith, counts line s c g, x .0),
+        omega (arith, counter-rises line s c g, x .0),
         λ h. let w = held line s c g b m (x .0) h .0 in
             let y = x .1 w in
             let v = above _ (h .0) in
@@ -155,7 +155,7 @@ module _ (n : ℕ) where
 
   bound-stable : (b m k : ℕ) → Stable n (Bound b m k)
   bound-stable b m k s c g o x = (
-    omega (arith, counts (line-R n) s c g, x .0),
+    omega (arith, counter-rises (line-R n) s c g, x .0),
     λ h. let y = x .1 (held (line-R n) s c g b m (x .0) h .0) in
         let z = same-after s c g o b (above-R _ (h .0)) in
         (omega (arith, y .0, z .stage), z .commit (y .0) ∙ y .1),
@@ -172,13 +172,13 @@ module _ (n : ℕ) where
       so (come-stable (line-R n) above-R b m 13) (4 + n * 3) s g
       (both (4 + n * 3) s
       (drained (line-C n) 2 leaves-C s g b (in-commits (client s b .stage) y (h .1)))
-      (stays (bound-stable b m (client s b .commit)) (4 + n * 3) s g (x .0, λ _. (y, refl))))
+      (following-stays (bound-stable b m (client s b .commit)) (4 + n * 3) s g (x .0, λ _. (y, refl))))
       (λ t i w. (
         w .1 .0,
         λ v. let u = w .1 .1 v in
             by-cases (decLe 13 (client t b .stage)) (λ z. z) (λ z. absurd (w .0 .1 (in-commits (client t b .stage) (u .0) (omega arith), u .1))),
       )))
-      (λ h. stays (come-stable (line-R n) above-R b m 13) (4 + n * 3) s g
+      (λ h. following-stays (come-stable (line-R n) above-R b m 13) (4 + n * 3) s g
       (x .0, λ y. by-cases (decLe (client s b .stage) 12) (λ l. absurd (h (y, l))) (λ l. omega arith)))
 
   -- from stage 5 to the end

@@ -28,7 +28,7 @@ use Rattle.spec.specs.Numbers.{top}
 use Rattle.spec.specs.Steps.{goOn, finished, enter, takeRequest, listRequests, looked, lookRequests, checked, check, takeCommit, listCommits, lookCommits, addCommit, leaveCommits, leaveRequests, steps, noStep, advance}
 use Rattle.spec.specs.Bytes.{decode, Memory, After, afterOf, encode, fits, onBytes, accepts, setUp}
 use Rattle.spec.specs.Run.{Call, Begin, Read, Write, Advance, Abandon, Trim, Free, Result, perform, step}
-use Rattle.spec.proofs.Ends.{stays}
+use Rattle.spec.proofs.Ends.{image-stays}
 use Rattle.demands.specs.OneCall.{Unchanged, SetUpRefused}
 use Rattle.history.proofs.Wellformed.{All, each-at}
 use Rattle.history.proofs.Bridge.{refused-call}
@@ -173,7 +173,7 @@ perform-quiet Free i = answers i _ _
 
 -- an outcome with the image that a record and two buffers show leaves them as they are
 pub encode-same : {A : Type 0} (s : Store) (d c : List ℕ) (o : Outcome A) → o .image ≡ decode s d c → encode s d c o ≡ afterOf s d c (o .answer)
-encode-same s d c o e = sym (stays s d c o (o .answer) (ap (λ (j : Image). record { image = j; answer = o .answer }) e))
+encode-same s d c o e = sym (image-stays s d c o (o .answer) (ap (λ (j : Image). record { image = j; answer = o .answer }) e))
 
 -- a call that is refused, with whatever number, leaves the record and each byte of both buffers as they were
 pub unchanged : (q : Call) (m : Memory) → Unchanged q m

@@ -36,7 +36,7 @@ use Rattle.history.proofs.Transition.{HasRow, no-advance, at0, ends0, a
 use Rattle.history.proofs.View.{dataRowOf, commitRowOf, clientOf, clientsAs, view, stage-put, request-put, commit-put, requestWaits-put, commitWaits-put, left-put, closed-put, waits-put, map-join, stage-at, past-number}
 use Rattle.history.proofs.Searches.{has-row, no-row, shares-view, asNumber, numberIn, check-view}
 use Rattle.history.proofs.Listings.{count-view, size-none, size-zero, phased-requests, phased-commits, others-view, some-view, look-view}
-use Rattle.history.proofs.Simulates.{observedOutcome, Simulates, simulates, simulates-if, not-open, is-open}
+use Rattle.history.proofs.Simulates.{observedOutcome, Simulates, simulates, simulates-if, not-open, open-number}
 use Rattle.history.proofs.Simple.{number-of, removed-view}
 
 -- what the calls ask of the image: numbers of 32 bits, cells that there are, a number to be taken, and a free committed row
@@ -317,4 +317,4 @@ advance-simulates i k ready =
     simulates-if i (Advance k) (leb clients k)
     (λ h. record { did = no-advance k noClient (omega arith) (past-number i (ready .fine .tidy) k (leb-true clients k h)) }) (λ h.
     simulates-if i (Advance k) (not (isOpen i k)) (λ e. record { did = no-advance k notOpen (omega arith) (not-open i k e) }) (λ o.
-    step-simulates i ready k (leb-false clients k h) (is-open i k o) (stageOf i k) refl (ready .fine .tidy .stage .each k)))
+    step-simulates i ready k (leb-false clients k h) (open-number i k o) (stageOf i k) refl (ready .fine .tidy .stage .each k)))

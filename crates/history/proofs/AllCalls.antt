@@ -32,9 +32,9 @@ use Rattle.history.proofs.Plain.{Plain, updateₚ}
 use Rattle.history.proofs.Invariant.{Inv}
 use Rattle.history.proofs.Arms.{cph-in}
 use Rattle.history.proofs.Transition.{Transition}
-use Rattle.history.proofs.Preserved.{good, never-2, Numbered, numbered, starts}
-use Rattle.history.proofs.Meets.{Under-state, keeps, R-left, C-left, start-under}
-use Rattle.history.proofs.Room.{Room-state, stays, room-left, start-room}
+use Rattle.history.proofs.Preserved.{good, never-2, Numbered, numbered-on, starts}
+use Rattle.history.proofs.Meets.{Under-state, under-kept, R-left, C-left, start-under}
+use Rattle.history.proofs.Room.{Room-state, room-stays, room-left, start-room}
 use Rattle.history.proofs.View.{view, number-at, stage-at, commit-at, W-at, R-at, C-at, used-at, entries-at, free-at}
 use Rattle.history.proofs.Simulates.{observedOutcome}
 use Rattle.history.proofs.Advancing.{Ready}
@@ -92,9 +92,9 @@ module _ {bounds : Bounds} {w : ℕ} {i : Image} {p : Plain} (g : Reached bounds
   good-next = record {
     fine = perform-kept q i (g .fine) .fine;
     inv = good (g .inv) transition-of .1;
-    under = keeps (view i) (g .under) transition-of;
-    room = stays (g .inv) (g .room) transition-of;
-    numbers = numbered (g .numbers) transition-of;
+    under = under-kept (view i) (g .under) transition-of;
+    room = room-stays (g .inv) (g .room) transition-of;
+    numbers = numbered-on (g .numbers) transition-of;
   }
 
   right-own : own.Rightₚ bounds (view i .W) p q (observed-by q i) (m.freeₛ (view (perform q i .image)))

@@ -10,7 +10,7 @@ use mathlib.Core.Option.{IsSome}
 use native.Mathlib.Decide.{ℕ-discrete, decLe}
 use native.Mathlib.Omega.{arith}
 use Rattle.history.proofs.Lists.{first-in, ite-elim}
-use Rattle.history.proofs.Tickets.{Others, low, taken, own, listing, listing-has, look, look-keeps, listSize, count-none}
+use Rattle.history.proofs.Tickets.{Others, ticket-low, taken, own, listing, listing-has, look, look-keeps, listSize, count-none}
 use Rattle.history.proofs.Model.{freeₛ, DRow, Client, State, findₛ, valueAtₛ, rphase, cphase, rph, cph, putₛ, same, clearC, atStageₛ, withRequest, withCommit, withRwait, withCwait, Out, out, step-to, takeR, takeC, listR, listC, lookR, lookC, sharing?, withClientsₛ}
 use Rattle.history.proofs.Booked.{is-some, value-at, row-find}
 use Rattle.history.proofs.Plain.{Plain, setP, updateₚ, onAdvanceₚ, onProgressₚ, onStageₚ, movedₚ, onNumberₚ, Rightₚ, RightAdvanceₚ, Sharesₚ, Wroteₚ, restaged}
@@ -55,7 +55,7 @@ sharing d t u h =
     (r .0, r .1, (e .0, rw (e .1) (h .2)))
 
 module _ {bounds : Bounds} {s : State} {p : Plain} (inv : Inv bounds s p) (a : ℕ) (isopen : 1 ≤ s .cl a .number) where
-  pub right-stage : (k : ℕ) → k ≡ suc (s .cl a .stage) → k ≤ 13 → k ≢ 6 → k ≢ 12 → (k ≡ 1 → Wroteₚ (p .cl a)) → RightAdvanceₚ p a (Answered (Stage k))
+  right-stage : (k : ℕ) → k ≡ suc (s .cl a .stage) → k ≤ 13 → k ≢ 6 → k ≢ 12 → (k ≡ 1 → Wroteₚ (p .cl a)) → RightAdvanceₚ p a (Answered (Stage k))
   right-stage k e l m n w = (inv .one a .live isopen, (omega (arith, inv .one a .on-stage), l, w, λ h. absurd (m h), λ h. absurd (n h)))
 
   -- A step to stage k that takes no commit number and makes no commit.
@@ -94,10 +94,10 @@ module _ {bounds : Bounds} {s : State} {p : Plain} (inv : Inv bounds s p) (a : �
     oC = others-C a c f tame (s .cl) hC
 
     R-low : rphase (c .stage) ≤ 1 → RQ (stepped s R C (putₛ a c f (s .cl)))
-    R-low h = low a (inv .rq) oR (rw (put-at a c f (s .cl)) h)
+    R-low h = ticket-low a (inv .rq) oR (rw (put-at a c f (s .cl)) h)
 
     pub C-low : cphase (c .stage) ≤ 1 → CQ (stepped s R C (putₛ a c f (s .cl)))
-    C-low h = low a (inv .cq) oC (rw (put-at a c f (s .cl)) h)
+    C-low h = ticket-low a (inv .cq) oC (rw (put-at a c f (s .cl)) h)
 
     R-taken : rphase (c .stage) ≤ 3 → c .request ≡ suc (s .R) → R ≡ suc (s .R) → RQ (stepped s R C (putₛ a c f (s .cl)))
     R-taken h e = taken a (inv .rq) oR (rw (put-at a c f (s .cl)) h) (rw (put-at a c f (s .cl)) e)

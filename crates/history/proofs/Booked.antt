@@ -278,9 +278,9 @@ module _ (t x : ℕ) (v : Value) where
   }
 
 -- Committed rows.
-pub number-at : (t : ℕ) (c : CRow) (n : ℕ) → numberAt t c ≡ some n → (c .tag ≡ t) × (c .number ≡ n)
+pub row-number-at : (t : ℕ) (c : CRow) (n : ℕ) → numberAt t c ≡ some n → (c .tag ≡ t) × (c .number ≡ n)
 unfolding numberAt
-number-at t c n =
+row-number-at t c n =
     ite-elim (λ o. o ≡ some n → (c .tag ≡ t) × (c .number ≡ n)) (ℕ-discrete (c .tag) t) (λ e q. (e, Option·some-injective _ _ q))
     (λ _ q. absurd (none-some refl q))
 

@@ -12,7 +12,7 @@ use native.Mathlib.Decide.{ℕ-discrete, decLe, decLt}
 use native.Mathlib.Omega.{arith}
 use lib.ListN.{length}
 use Rattle.history.proofs.Lists.{in-case, length-drop?, none-some, option-case}
-use Rattle.history.proofs.Tickets.{TicketQueue, low, exclusive}
+use Rattle.history.proofs.Tickets.{TicketQueue, ticket-low, exclusive}
 use Rattle.history.proofs.Model.{newcomer, DRow, Client, State, findₛ, writesOf, rphase, cphase, rph, cph, putₛ, same, closedₛ, clearBoth, atStageₛ, out, checkedₛ, committed, begunₛ, lookup, committedAt, figured, freeₛ, without, leave, removedₛ, withData, trimmedₛ, smallestₛ, checkKey, snapshots, lesserₛ, default, passed?, lowₛ as lowOf}
 use Rattle.history.proofs.Plain.{restaged, onProgressₚ, opening, rewritten, Entry, PClient, Plain, NoClashₚ, setP, updateₚ, onBeginₚ, onWriteₚ, onAbandonₚ, onAdvanceₚ, onStageₚ, onCommitₚ, onCloseₚ, none-yet, Sharesₚ}
 use Rattle.history.proofs.Invariant.{Reader, readerOf, lateness, Tab, OneClient, Rel, Always, Inv}
@@ -41,7 +41,7 @@ module _ {bounds : Bounds} {s : State} {p : Plain} (inv : Inv bounds s p) (a : �
         (s .R) (Rel dat′ (putₛ a c f (s .cl)))
     unfolding rphase
     R-out dat′ sub =
-        low a (inv .rq)
+        ticket-low a (inv .rq)
         (others-R a c f tame (s .cl) (s .dat) dat′ (omega arith)
         (each a (λ b. 2 ≤ rphase (putₛ a c f (s .cl) b .stage) → (x : ℕ) → IsSome (findₛ (putₛ a c f (s .cl) b .number) x dat′) → IsSome
         (findₛ (s .cl b .number) x (s .dat)))
@@ -54,7 +54,7 @@ module _ {bounds : Bounds} {s : State} {p : Plain} (inv : Inv bounds s p) (a : �
 
     C-out : TicketQueue (λ b. cphase (putₛ a c f (s .cl) b .stage)) (λ b. putₛ a c f (s .cl) b .commit) (λ b. putₛ a c f (s .cl) b .cwait)
         (s .C) Always
-    C-out = low a (inv .cq) (others-C a c f tame (s .cl) (omega arith)) (rw (put-at a c f (s .cl), h) (omega (arith, cph-in 0 (omega arith))))
+    C-out = ticket-low a (inv .cq) (others-C a c f tame (s .cl) (omega arith)) (rw (put-at a c f (s .cl), h) (omega (arith, cph-in 0 (omega arith))))
 
   pub begin-good : a < clients → s .cl a .number ≡ 0 → s .W < top → Good bounds s p (Begin a) (begunₛ s a)
   unfolding begunₛ updateₚ onBeginₚ lateness
@@ -350,7 +350,7 @@ module _ {bounds : Bounds} {s : State} {p : Plain} (inv : Inv bounds s p) (a : �
               fresh = λ k. absurd (omega arith);
             })
             (λ b m. rw (setP-off a q (p .cl) b m) (inv .one b));
-        rq = low a (inv .rq) record {
+        rq = ticket-low a (inv .rq) record {
           phase = λ b n. refl;
           number = λ b n. refl;
           kept = λ x b n m. refl;
@@ -459,7 +459,7 @@ module _ {bounds : Bounds} {s : State} {p : Plain} (inv : Inv bounds s p) where
       counted = inv .counted;
       last-le = inv .last-le;
       one = inv .one;
-      rq = low clients (inv .rq) record {
+      rq = ticket-low clients (inv .rq) record {
         phase = λ b n. refl;
         number = λ b n. refl;
         kept = λ x b n m. refl;

@@ -81,51 +81,51 @@ module _ (s : State) (u : Under-state s) where
   gone a h = moved a h closedₛ (clearBoth a) (tame-both a) (s .R) (s .C) (s .W) (omega (arith, early-shut 1 closedₛ refl))
       (omega (arith, early-shut 7 closedₛ refl))
 
-  pub keeps : {c : Call} {x : Out (Answer (Observed c))} → Transition s c x → Under-state (x .state)
+  pub under-kept : {c : Call} {x : Out (Answer (Observed c))} → Transition s c x → Under-state (x .state)
   unfolding begunₛ overwritten addedₛ trimmedₛ takeR takeC listR listC lookR lookC checkedₛ committed
-  keeps (no-begin a r d n) = u
-  keeps (no-read a x r d n) = u
-  keeps (no-write a x v r d n) = u
-  keeps (no-advance a r d n) = u
-  keeps (no-abandon a r d n) = u
-  keeps (begins a h was k) =
+  under-kept (no-begin a r d n) = u
+  under-kept (no-read a x r d n) = u
+  under-kept (no-write a x v r d n) = u
+  under-kept (no-advance a r d n) = u
+  under-kept (no-abandon a r d n) = u
+  under-kept (begins a h was k) =
       moved a h _ same (tame-same a) (s .R) (s .C) (suc (s .W)) (omega (arith, early-one 1 (newcomer s) (omega arith) (omega arith)))
       (omega (arith, early-one 7 (newcomer s) (omega arith) (omega arith)))
-  keeps (reads a x hx op e) = u
-  keeps (replaces a x v w op k) = u
-  keeps (adds a x v w op n) = u
-  keeps (at0 a h op e k) = later a h (atStageₛ (s .cl a) 1) same (tame-same a) refl (omega arith)
-  keeps (ends0 a h op e k) = gone a h
-  keeps (at1 a h op e) =
+  under-kept (reads a x hx op e) = u
+  under-kept (replaces a x v w op k) = u
+  under-kept (adds a x v w op n) = u
+  under-kept (at0 a h op e k) = later a h (atStageₛ (s .cl a) 1) same (tame-same a) refl (omega arith)
+  under-kept (ends0 a h op e k) = gone a h
+  under-kept (at1 a h op e) =
       moved a h (withRequest (s .cl a) 2 (suc (s .R))) same (tame-same a) (suc (s .R)) (s .C) (s .W)
       (omega (arith, early-late 1 (withRequest (s .cl a) 2 (suc (s .R))) (omega arith), early-one 1 (s .cl a) op (omega arith)))
       (omega (arith, early-later 7 (withRequest (s .cl a) 2 (suc (s .R))) (s .cl a) refl (omega arith)))
-  keeps (at2 a h op e) = later a h (atStageₛ (s .cl a) 3) same (tame-same a) refl (omega arith)
-  keeps (at3 a h op e) = later a h _ same (tame-same a) refl (omega arith)
-  keeps (at4 a h op e) =
+  under-kept (at2 a h op e) = later a h (atStageₛ (s .cl a) 3) same (tame-same a) refl (omega arith)
+  under-kept (at3 a h op e) = later a h _ same (tame-same a) refl (omega arith)
+  under-kept (at4 a h op e) =
       ite-elim (λ (x : Out (Answer Progress)). Under-state (x .state))
       (ℕ-discrete (listSize clients (look (rph s) (λ b. s .cl b .request) a (s .cl a .rwait))) 0)
       (λ _. later a h _ same (tame-same a) refl (omega arith)) (λ _. later a h _ same (tame-same a) refl (omega arith))
-  keeps (at5 a h op e) =
+  under-kept (at5 a h op e) =
       option-case (smallestₛ (checkKey (s .dat) (s .comm) (s .cl a .number) (s .cl a .snapshot)) (s .dat))
       (λ q. rw q (later a h (atStageₛ (s .cl a) 6) same (tame-same a) refl (omega arith))) (λ x q. rw q (gone a h))
-  keeps (at6 a h op e) = later a h (atStageₛ (s .cl a) 7) same (tame-same a) refl (omega arith)
-  keeps (at7 a h op e) =
+  under-kept (at6 a h op e) = later a h (atStageₛ (s .cl a) 7) same (tame-same a) refl (omega arith)
+  under-kept (at7 a h op e) =
       moved a h (withCommit (s .cl a) 8 (suc (s .C))) same (tame-same a) (s .R) (suc (s .C)) (s .W)
       (omega (arith, early-later 1 (withCommit (s .cl a) 8 (suc (s .C))) (s .cl a) refl (omega arith)))
       (omega (arith, early-late 7 (withCommit (s .cl a) 8 (suc (s .C))) (omega arith), early-one 7 (s .cl a) op (omega arith)))
-  keeps (at8 a h op e) = later a h (atStageₛ (s .cl a) 9) same (tame-same a) refl (omega arith)
-  keeps (at9 a h op e) = later a h _ same (tame-same a) refl (omega arith)
-  keeps (at10 a h op e) =
+  under-kept (at8 a h op e) = later a h (atStageₛ (s .cl a) 9) same (tame-same a) refl (omega arith)
+  under-kept (at9 a h op e) = later a h _ same (tame-same a) refl (omega arith)
+  under-kept (at10 a h op e) =
       ite-elim (λ (x : Out (Answer Progress)). Under-state (x .state))
       (ℕ-discrete (listSize clients (look (cph s) (λ b. s .cl b .commit) a (s .cl a .cwait))) 0)
       (λ _. later a h _ same (tame-same a) refl (omega arith)) (λ _. later a h _ same (tame-same a) refl (omega arith))
-  keeps (at11 a h op e) = later a h (atStageₛ (s .cl a) 12) same (tame-same a) refl (omega arith)
-  keeps (at12 a h op e) = later a h (atStageₛ (clearC a (s .cl a)) 13) (clearC a) (tame-C a) refl (omega arith)
-  keeps (at13 a h op e) = gone a h
-  keeps (abandons a h op k) = gone a h
-  keeps (trims fits) = u
-  keeps frees = u
+  under-kept (at11 a h op e) = later a h (atStageₛ (s .cl a) 12) same (tame-same a) refl (omega arith)
+  under-kept (at12 a h op e) = later a h (atStageₛ (clearC a (s .cl a)) 13) (clearC a) (tame-C a) refl (omega arith)
+  under-kept (at13 a h op e) = gone a h
+  under-kept (abandons a h op k) = gone a h
+  under-kept (trims fits) = u
+  under-kept frees = u
 
   -- an open client that has yet to take a number finds one
   pub R-left : (a : ℕ) → a < clients → 1 ≤ s .cl a .number → s .cl a .stage ≤ 1 → s .R < s .W

@@ -128,39 +128,39 @@ check-W s a w none n = n
 check-W s a w (some x) n = n
 
 module _ {s : State} {w : ℕ} (n : Numbered w (s .W)) where
-  pub numbered : {q : Call} {o : Out (Answer (Observed q))} → Transition s q o → Numbered (nextAfter q (o .answer) w) (o .state .W)
+  pub numbered-on : {q : Call} {o : Out (Answer (Observed q))} → Transition s q o → Numbered (nextAfter q (o .answer) w) (o .state .W)
   unfolding begunₛ overwritten addedₛ trimmedₛ takeR takeC listR listC lookR lookC committed
-  numbered (no-begin a r d k) = n
-  numbered (no-read a x r d k) = n
-  numbered (no-write a x v r d k) = n
-  numbered (no-advance a r d k) = n
-  numbered (no-abandon a r d k) = n
-  numbered (begins a h was k) = record { issued = omega arith; within = omega arith }
-  numbered (reads a x hx o e) = n
-  numbered (replaces a x v w o k) = n
-  numbered (adds a x v w o k) = n
-  numbered (at0 a h o e k) = n
-  numbered (ends0 a h o e k) = n
-  numbered (at1 a h o e) = n
-  numbered (at2 a h o e) = n
-  numbered (at3 a h o e) = n
-  numbered (at4 a h o e) =
+  numbered-on (no-begin a r d k) = n
+  numbered-on (no-read a x r d k) = n
+  numbered-on (no-write a x v r d k) = n
+  numbered-on (no-advance a r d k) = n
+  numbered-on (no-abandon a r d k) = n
+  numbered-on (begins a h was k) = record { issued = omega arith; within = omega arith }
+  numbered-on (reads a x hx o e) = n
+  numbered-on (replaces a x v w o k) = n
+  numbered-on (adds a x v w o k) = n
+  numbered-on (at0 a h o e k) = n
+  numbered-on (ends0 a h o e k) = n
+  numbered-on (at1 a h o e) = n
+  numbered-on (at2 a h o e) = n
+  numbered-on (at3 a h o e) = n
+  numbered-on (at4 a h o e) =
       ite-elim (λ (x : Out (Answer Progress)). Numbered w (x .state .W))
       (ℕ-discrete (listSize clients (look (rph s) (λ b. s .cl b .request) a (s .cl a .rwait))) 0) (λ _. n) (λ _. n)
-  numbered (at5 a h o e) = check-W s a w _ n
-  numbered (at6 a h o e) = n
-  numbered (at7 a h o e) = n
-  numbered (at8 a h o e) = n
-  numbered (at9 a h o e) = n
-  numbered (at10 a h o e) =
+  numbered-on (at5 a h o e) = check-W s a w _ n
+  numbered-on (at6 a h o e) = n
+  numbered-on (at7 a h o e) = n
+  numbered-on (at8 a h o e) = n
+  numbered-on (at9 a h o e) = n
+  numbered-on (at10 a h o e) =
       ite-elim (λ (x : Out (Answer Progress)). Numbered w (x .state .W))
       (ℕ-discrete (listSize clients (look (cph s) (λ b. s .cl b .commit) a (s .cl a .cwait))) 0) (λ _. n) (λ _. n)
-  numbered (at11 a h o e) = n
-  numbered (at12 a h o e) = n
-  numbered (at13 a h o e) = n
-  numbered (abandons a h o k) = n
-  numbered (trims fits) = n
-  numbered frees = n
+  numbered-on (at11 a h o e) = n
+  numbered-on (at12 a h o e) = n
+  numbered-on (at13 a h o e) = n
+  numbered-on (abandons a h o k) = n
+  numbered-on (trims fits) = n
+  numbered-on frees = n
 
 -- ---- set-up
 

@@ -169,51 +169,51 @@ module _ {bounds : Bounds} {s : State} {p : Plain} (inv : Inv bounds s p) (u : R
         own = λ a x y z. kept-own (s .cl a .number) (not-committed a x (omega arith)) (u .own a x y z);
       }
 
-  pub stays : {c : Call} {x : Out (Answer (Observed c))} → Transition s c x → Room-state (x .state)
+  pub room-stays : {c : Call} {x : Out (Answer (Observed c))} → Transition s c x → Room-state (x .state)
   unfolding begunₛ overwritten addedₛ trimmedₛ takeR takeC listR listC lookR lookC checkedₛ committed
-  stays (no-begin a r d n) = u
-  stays (no-read a x r d n) = u
-  stays (no-write a x v r d n) = u
-  stays (no-advance a r d n) = u
-  stays (no-abandon a r d n) = u
-  stays (begins a h was k) = moved a _ same (tame-same a) (λ x y. absurd (omega arith))
-  stays (reads a x hx op e) = u
-  stays (replaces a x v w op k) = record {
+  room-stays (no-begin a r d n) = u
+  room-stays (no-read a x r d n) = u
+  room-stays (no-write a x v r d n) = u
+  room-stays (no-advance a r d n) = u
+  room-stays (no-abandon a r d n) = u
+  room-stays (begins a h was k) = moved a _ same (tame-same a) (λ x y. absurd (omega arith))
+  room-stays (reads a x hx op e) = u
+  room-stays (replaces a x v w op k) = record {
     distinct = u .distinct;
     backed = λ c i. let r = u .backed c i in replace-row (s .cl a .number) x v (c .tag) (s .dat) (r .0) (r .1) (r .2);
     own = λ b y z w. let r = u .own b y z w in replace-row (s .cl a .number) x v (s .cl b .number) (s .dat) (r .0) (r .1) (r .2);
   }
-  stays (adds a x v w op n) = record {
+  room-stays (adds a x v w op n) = record {
     distinct = u .distinct;
     backed = λ c i. let r = u .backed c i in (r .0, in-left _ (r .1), r .2);
     own = λ b y z w. let r = u .own b y z w in (r .0, in-left _ (r .1), r .2);
   }
-  stays (at0 a h op e k) = moved a (atStageₛ (s .cl a) 1) same (tame-same a) (λ x y z. k)
-  stays (ends0 a h op e k) = shut a
-  stays (at1 a h op e) = later a (withRequest (s .cl a) 2 (suc (s .R))) same (tame-same a) refl op (omega arith) (omega arith)
-  stays (at2 a h op e) = later a (atStageₛ (s .cl a) 3) same (tame-same a) refl op (omega arith) (omega arith)
-  stays (at3 a h op e) = later a _ same (tame-same a) refl op (omega arith) (omega arith)
-  stays (at4 a h op e) =
+  room-stays (at0 a h op e k) = moved a (atStageₛ (s .cl a) 1) same (tame-same a) (λ x y z. k)
+  room-stays (ends0 a h op e k) = shut a
+  room-stays (at1 a h op e) = later a (withRequest (s .cl a) 2 (suc (s .R))) same (tame-same a) refl op (omega arith) (omega arith)
+  room-stays (at2 a h op e) = later a (atStageₛ (s .cl a) 3) same (tame-same a) refl op (omega arith) (omega arith)
+  room-stays (at3 a h op e) = later a _ same (tame-same a) refl op (omega arith) (omega arith)
+  room-stays (at4 a h op e) =
       ite-elim (λ (x : Out (Answer Progress)). Room-state (x .state))
       (ℕ-discrete (listSize clients (look (rph s) (λ b. s .cl b .request) a (s .cl a .rwait))) 0)
       (λ _. later a _ same (tame-same a) refl op (omega arith) (omega arith)) (λ _. later a _ same (tame-same a) refl op (omega arith) (omega arith))
-  stays (at5 a h op e) =
+  room-stays (at5 a h op e) =
       option-case (smallestₛ (checkKey (s .dat) (s .comm) (s .cl a .number) (s .cl a .snapshot)) (s .dat))
       (λ q. rw q (later a (atStageₛ (s .cl a) 6) same (tame-same a) refl op (omega arith) (omega arith))) (λ x q. rw q (gone a op (omega arith)))
-  stays (at6 a h op e) = later a (atStageₛ (s .cl a) 7) same (tame-same a) refl op (omega arith) (omega arith)
-  stays (at7 a h op e) = later a (withCommit (s .cl a) 8 (suc (s .C))) same (tame-same a) refl op (omega arith) (omega arith)
-  stays (at8 a h op e) = later a (atStageₛ (s .cl a) 9) same (tame-same a) refl op (omega arith) (omega arith)
-  stays (at9 a h op e) = later a _ same (tame-same a) refl op (omega arith) (omega arith)
-  stays (at10 a h op e) =
+  room-stays (at6 a h op e) = later a (atStageₛ (s .cl a) 7) same (tame-same a) refl op (omega arith) (omega arith)
+  room-stays (at7 a h op e) = later a (withCommit (s .cl a) 8 (suc (s .C))) same (tame-same a) refl op (omega arith) (omega arith)
+  room-stays (at8 a h op e) = later a (atStageₛ (s .cl a) 9) same (tame-same a) refl op (omega arith) (omega arith)
+  room-stays (at9 a h op e) = later a _ same (tame-same a) refl op (omega arith) (omega arith)
+  room-stays (at10 a h op e) =
       ite-elim (λ (x : Out (Answer Progress)). Room-state (x .state))
       (ℕ-discrete (listSize clients (look (cph s) (λ b. s .cl b .commit) a (s .cl a .cwait))) 0)
       (λ _. later a _ same (tame-same a) refl op (omega arith) (omega arith)) (λ _. later a _ same (tame-same a) refl op (omega arith) (omega arith))
-  stays (at11 a h op e) = made a op e
-  stays (at12 a h op e) = moved a (atStageₛ (clearC a (s .cl a)) 13) (clearC a) (tame-C a) (λ x y z. absurd (omega arith))
-  stays (at13 a h op e) = shut a
-  stays (abandons a h op k) = gone a op k
-  stays (trims fits) = trimmed-room
-  stays frees = u
+  room-stays (at11 a h op e) = made a op e
+  room-stays (at12 a h op e) = moved a (atStageₛ (clearC a (s .cl a)) 13) (clearC a) (tame-C a) (λ x y z. absurd (omega arith))
+  room-stays (at13 a h op e) = shut a
+  room-stays (abandons a h op k) = gone a op k
+  room-stays (trims fits) = trimmed-room
+  room-stays frees = u
 
   -- at stage 11 there is a free committed row
   pub room-left : (a : ℕ) → 1 ≤ s .cl a .number → s .cl a .stage ≡ 11 → length (s .comm) < length (s .dat)

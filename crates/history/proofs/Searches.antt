@@ -142,9 +142,9 @@ module _ (t x : ℕ) where
       (λ e. (e, eqb-true (cellOf r) x (rw (eq-eqb (tagOf r) t e) at h)))
       (λ n. absurd (false≢true (rw (ne-eqb (tagOf r) t n) at h)))
 
-  pub own-yes : (r : Row) → isOwn t x r ≡ true → valueAtₛ t x (dataRowOf r) ≡ some (valueOf r)
+  pub own-value : (r : Row) → isOwn t x r ≡ true → valueAtₛ t x (dataRowOf r) ≡ some (valueOf r)
   unfolding valueAtₛ dataRowOf
-  own-yes r h = let e = own-is r h in if-pos (ℕ-discrete (tagOf r) t) (e .0) _ none ∙ if-pos (ℕ-discrete (cellOf r) x) (e .1) (some (valueOf r)) none
+  own-value r h = let e = own-is r h in if-pos (ℕ-discrete (tagOf r) t) (e .0) _ none ∙ if-pos (ℕ-discrete (cellOf r) x) (e .1) (some (valueOf r)) none
 
   pub own-no : (r : Row) → isOwn t x r ≡ false → valueAtₛ t x (dataRowOf r) ≡ none
   unfolding valueAtₛ dataRowOf isOwn
@@ -167,7 +167,7 @@ module _ (t x : ℕ) where
           → first (valueAtₛ t x) (map dataRowOf rs) ≡ ownValue (pre ++ (r ∷ rs)) (k.find (isOwn t x) (length pre + 1) rs)
           → orNext (valueAtₛ t x (dataRowOf r)) (first (valueAtₛ t x) (map dataRowOf rs))
           ≡ ownValue (pre ++ (r ∷ rs)) (if b then At (length pre) else k.find (isOwn t x) (length pre + 1) rs)
-      go true h ih = rw (own-yes r h, getD-append-seam pre r rs [])
+      go true h ih = rw (own-value r h, getD-append-seam pre r rs [])
       go false h ih = rw (own-no r h) ih
 
   pub own-view : (ds : List Row) → findₛ t x (map dataRowOf ds) ≡ ownValue ds (k.find (isOwn t x) 0 ds)
@@ -180,7 +180,7 @@ module _ (t x : ℕ) where
     where
       go : (b : Bool) → isOwn t x r ≡ b → says (some? (first (valueAtₛ t x) (map dataRowOf rs))) ≡ any (isOwn t x) rs
           → says (some? (orNext (valueAtₛ t x (dataRowOf r)) (first (valueAtₛ t x) (map dataRowOf rs)))) ≡ (if b then true else any (isOwn t x) rs)
-      go true h ih = rw (own-yes r h)
+      go true h ih = rw (own-value r h)
       go false h ih = rw (own-no r h) ih
 
 -- ---- how many cells a transaction wrote

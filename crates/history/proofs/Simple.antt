@@ -31,7 +31,7 @@ use Rattle.history.proofs.Model.{out, largest, readKey, lookup, committ
 use Rattle.history.proofs.Transition.{no-begin, no-read, no-abandon, begins, reads, abandons, frees}
 use Rattle.history.proofs.View.{dataRowOf, commitRowOf, Fields, clientOf, clientsAs, view, clients-put, closed-put, none-listed, stage-at, past-number, free-at, W-at}
 use Rattle.history.proofs.Searches.{ownValue, own-view, versionIn, newest-view, removed-rows}
-use Rattle.history.proofs.Simulates.{observedOutcome, Simulates, simulates, simulates-if, shut, same-open, not-open, is-open}
+use Rattle.history.proofs.Simulates.{observedOutcome, Simulates, simulates, simulates-if, shut, same-open, not-open, open-number}
 
 -- ---- Begin
 
@@ -101,7 +101,7 @@ read-simulates i k x z =
           (omega (arith, ltb-true 11 (stageOf i k) l, stage-at i k)));
     }) (λ l.
     simulates i (Read k x) _ (ap (λ (v : Option Value). out (view i) (Answered v)) (lookup-view i k x))
-    (reads k x (leb-false cells x g) (is-open i k o) (omega (arith, ltb-false 11 (stageOf i k) l, stage-at i k)))))))
+    (reads k x (leb-false cells x g) (open-number i k o) (omega (arith, ltb-false 11 (stageOf i k) l, stage-at i k)))))))
 
 -- ---- Abandon
 
@@ -129,7 +129,7 @@ abandon-simulates i k z =
     (λ g. record { did = no-abandon k wrongStage (omega arith) (λ _. for-commit (omega (arith, leb-true 12 (stageOf i k) g, stage-at i k))) }) (λ g.
     let l : k < clients = leb-false clients k h in
     simulates i (Abandon k) _ (rw (← removed-view i k (z .tidy) l, free-at (removed k i)))
-    (abandons k l (is-open i k o) (omega (arith, leb-false 12 (stageOf i k) g, stage-at i k))))))
+    (abandons k l (open-number i k o) (omega (arith, leb-false 12 (stageOf i k) g, stage-at i k))))))
 
 -- ---- Free
 

@@ -45,8 +45,8 @@ module _ (i : Image) (k : ℕ) where
   pub not-open : not (isOpen i k) ≡ true → view i .cl k .number ≡ 0
   not-open e = shut (not-true (isOpen i k) e)
 
-  pub is-open : not (isOpen i k) ≡ false → 1 ≤ view i .cl k .number
-  is-open e =
+  pub open-number : not (isOpen i k) ≡ false → 1 ≤ view i .cl k .number
+  open-number e =
       let n : numberOf i k ≡ 0 → ⊥ = eqb-false (numberOf i k) 0 (not-true (eqb (numberOf i k) 0) (not-false (isOpen i k) e)) in
       omega (arith, n, number-at i k)
 

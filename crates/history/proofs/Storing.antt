@@ -32,8 +32,8 @@ use Rattle.history.proofs.Model as m
 use Rattle.history.proofs.Model.{DRow, replace, some?, writesOf}
 use Rattle.history.proofs.Transition.{no-write, replaces, adds}
 use Rattle.history.proofs.View.{dataRowOf, clientOf, clientsAs, view, map-join, free-at, limit-at, stage-at, past-number}
-use Rattle.history.proofs.Searches.{ownValue, own-yes, own-no, own-view, cells-view}
-use Rattle.history.proofs.Simulates.{observedOutcome, Simulates, simulates, simulates-if, not-open, is-open, at-first}
+use Rattle.history.proofs.Searches.{ownValue, own-value, own-no, own-view, cells-view}
+use Rattle.history.proofs.Simulates.{observedOutcome, Simulates, simulates, simulates-if, not-open, open-number, at-first}
 
 -- ---- a row with another value
 
@@ -83,7 +83,7 @@ module _ (t x : ℕ) (v : List ℕ) (l : length v ≡ 16) where
       hit : isOwn t x r ≡ true → length pre ≡ j → Goal
       hit h q =
           rw (
-            own-yes t x r h,
+            own-value t x r h,
             ← q,
             getD-append-seam pre r rs [],
             set-append-seam pre r rs (withValue v r),
@@ -142,7 +142,7 @@ module _ (i : Image) (k x : ℕ) (v : List ℕ) (z : Wellformed i) (l : length v
     may : Writable (view i .cl k .stage) x v
     may = record { cell = below; bytes = l; stage = stage }
 
-    pub stored-simulates : ((r : DRow) → In r (view i .dat) → r .cell < cells) → (o : Found) → find (isOwn (numberOf i k) x) 0 (i .dataRows) ≡ o
+    stored-simulates : ((r : DRow) → In r (view i .dat) → r .cell < cells) → (o : Found) → find (isOwn (numberOf i k) x) 0 (i .dataRows) ≡ o
         → Simulates i (Write k x v) (stored o k x v i)
     unfolding added more
     stored-simulates inside (At j) e =
@@ -193,4 +193,4 @@ write-simulates i k x v z b inside =
       did = no-write k x v wrongStage (omega arith)
           (λ _. for-stage below bytes (omega (arith, stage-at i k, eqb-false (stageOf i k) 0 (not-true (eqb (stageOf i k) 0) f))));
     }) (λ f.
-    stored-simulates i k x v z bytes b below (is-open i k o) (at-first i k f) inside (find (isOwn (numberOf i k) x) 0 (i .dataRows)) refl)))))
+    stored-simulates i k x v z bytes b below (open-number i k o) (at-first i k f) inside (find (isOwn (numberOf i k) x) 0 (i .dataRows)) refl)))))

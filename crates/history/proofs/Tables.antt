@@ -16,7 +16,7 @@ use Rattle.history.proofs.Model.{DRow, CRow, findₛ, valueAtₛ, numOf
 use Rattle.history.proofs.Plain.{Entry, lastOfₚ, written}
 use Rattle.history.proofs.Invariant.{Reader, valuesOf, Superseded, RowOf, Mine, Tab}
 use Rattle.history.proofs.Moves.{each}
-use Rattle.history.proofs.Booked.{is-some, value-tag, find-row, none-found, find-uniq, uniq-drop, find-without, Written, book-max, newerₚ-none, newerₚ-cons, older-all, older-cons, upTo-whole, upTo-skip, number-at, num-old, num-new, num-none, num-case}
+use Rattle.history.proofs.Booked.{is-some, value-tag, find-row, none-found, find-uniq, uniq-drop, find-without, Written, book-max, newerₚ-none, newerₚ-cons, older-all, older-cons, upTo-whole, upTo-skip, row-number-at, num-old, num-new, num-none, num-case}
 use Rattle.spec.specs.Table.{Value, override, orElse, overlay}
 use Rattle.spec.specs.Rows.{cells}
 use borrow.Author.Tests.{eq-eqb, ne-eqb}
@@ -378,7 +378,7 @@ module _ {dat : List DRow} {comm : List CRow} {last W : ℕ} {table : ℕ → Op
   unfolding numOf
   num-kept u r i e =
       first-keep (numberAt u) (bare? (trimDat dat comm l)) comm
-      (λ c j b. option-case (numberAt u c) (λ q. q) (λ n q. absurd (b (r, i, e ∙ sym (number-at u c n q .0)))))
+      (λ c j b. option-case (numberAt u c) (λ q. q) (λ n q. absurd (b (r, i, e ∙ sym (row-number-at u c n q .0)))))
 
   num-sub : (u n : ℕ) → numOf u (trimComm dat comm l) ≡ some n → numOf u comm ≡ some n
   unfolding numOf
@@ -388,7 +388,7 @@ module _ {dat : List DRow} {comm : List CRow} {last W : ℕ} {table : ℕ → Op
       go (yes h) = sym (num-kept u (h .0) (h .1) (h .2)) ∙ e
       go (no h) =
           absurd (none-some (first-gone (numberAt u) (bare? (trimDat dat comm l)) comm
-          (λ c j b. option-case (numberAt u c) (λ q. q) (λ m q. absurd (b (λ r. h (r .0, r .1, r .2 ∙ number-at u c m q .0)))))) e)
+          (λ c j b. option-case (numberAt u c) (λ q. q) (λ m q. absurd (b (λ r. h (r .0, r .1, r .2 ∙ row-number-at u c m q .0)))))) e)
 
   num-not : (u : ℕ) → numOf u comm ≡ none → numOf u (trimComm dat comm l) ≡ none
   num-not u e = option-case (numOf u (trimComm dat comm l)) (λ q. q) (λ n q. absurd (none-some e (num-sub u n q)))

@@ -3,7 +3,7 @@
 -- The argument: of two clients with numbers that concern one another the one with the smaller number is on the other's list while that one
 -- looks (`listed`), since it had entered before the other made its list, and a look strikes only who is gone or has a larger number. So nobody
 -- passes before a smaller number that concerns him has left (`passed`), and no two that concern one another have both passed (`exclusive`).
--- A step of one client is one of three: it comes out without a number (`low`), takes the next number (`taken`), or keeps its number (`own`).
+-- A step of one client is one of three: it comes out without a number (`ticket-low`), takes the next number (`taken`), or keeps its number (`own`).
 -- Assumes nothing.
 use Prim.Native.Nat.{ℕ, zero, suc, _+_, _≤_, _<_}
 use mathlib.Core.Path.{_≡_, refl, sym, _∙_, ap, subst}
@@ -181,8 +181,8 @@ module _ (c : ℕ) {ph num : ℕ → ℕ} {list : ℕ → ℕ → Bool} {ctr : �
       let ea = old a na in let eb = old b nb in q .passed a b n (omega arith) (omega arith) (o .concerns a b ha (omega arith) r) (omega arith)
 
   -- Client c comes out of the step with no number: it entered, left, or works outside the queue.
-  pub low : ph′ c ≤ 1 → TicketQueue ph′ num′ list′ ctr′ Rel′
-  low h = record {
+  pub ticket-low : ph′ c ≤ 1 → TicketQueue ph′ num′ list′ ctr′ Rel′
+  ticket-low h = record {
     bound = λ a ha. let g = o .counter in omega (arith, bound-old a (ne a ha) ha);
     apart = λ a b n ha hb. apart-old a b (ne a ha) (ne b hb) n ha hb;
     listed = λ a b n ha hb r l. listed-old a b (ne a ha) (ne b (omega arith)) n ha hb r l;

@@ -1,1 +1,1 @@
-pub mod Trimmed
+pub mod KeptRows

@@ -69,7 +69,7 @@ module _ (key : ℕ → ℕ) (n : ℕ) where
 
     module _ (x i : ℕ) (h : i < n) (m : Chain key n nexts x i) where
       -- the next row of the chain
-      pub chain-next : Next (λ j. key j ≡ key i) (i + 1) n (getD nexts i 0)
+      chain-next : Next (λ j. key j ≡ key i) (i + 1) n (getD nexts i 0)
       chain-next = m .next i (omega arith) h (omega (arith, m .here h, m .small))
 
       pub chain-more : Chain key n nexts x (getD nexts i 0)

@@ -175,18 +175,18 @@ module _ (m : ℕ) (c : List ℕ) where
     distinct j k l h q = differ (from-at (isCommitOf (commitTag (rowAt 8 j c))) 8 m c (j + 1) k (omega arith) h (eq-eqb _ _ (sym q)))
         (alone j (omega arith))
 
-    pub number-of : (j tag : ℕ) → j < m → commitTag (rowAt 8 j c) ≡ tag → commitOf tag (rowsIn 8 m c) ≡ Some (commitNumber (rowAt 8 j c))
-    number-of j tag h q = commit-first tag m c j h q (λ i l f. distinct i j l h (f ∙ sym q))
+    pub row-number : (j tag : ℕ) → j < m → commitTag (rowAt 8 j c) ≡ tag → commitOf tag (rowsIn 8 m c) ≡ Some (commitNumber (rowAt 8 j c))
+    row-number j tag h q = commit-first tag m c j h q (λ i l f. distinct i j l h (f ∙ sym q))
 
     -- the tag that a data row has, committed under that number, is that of a committed row
-    pub committed : (C : Type 0) (tag v : ℕ) → commitOf tag (rowsIn 8 m c) ≡ Some v →
+    pub by-commit : (C : Type 0) (tag v : ℕ) → commitOf tag (rowsIn 8 m c) ≡ Some v →
         ((k : ℕ) → k < m → commitTag (rowAt 8 k c) ≡ tag → commitNumber (rowAt 8 k c) ≡ v → C) → C
     unfolding isCommitOf
-    committed C tag v q found = go (any (isCommitOf tag) (rowsIn 8 m c)) refl
+    by-commit C tag v q found = go (any (isCommitOf tag) (rowsIn 8 m c)) refl
       where
         number : (k : ℕ) → k < m → commitTag (rowAt 8 k c) ≡ tag → commitNumber (rowAt 8 k c) ≡ v
         number k h f =
-            let z : commitOf tag (rowsIn 8 m c) ≡ Some (commitNumber (rowAt 8 k c)) = number-of k tag h f in
+            let z : commitOf tag (rowsIn 8 m c) ≡ Some (commitNumber (rowAt 8 k c)) = row-number k tag h f in
             cc
 
         nowhere : any (isCommitOf tag) (rowsIn 8 m c) ≡ false → (k : ℕ) → k < m → commitTag (rowAt 8 k c) ≡ tag → ⊥

@@ -19,7 +19,7 @@ use spec::Store;
 use spec::TOP;
 
 // The request queue: entered at stage 0, the number noted at 2, left at 13.
-pub fn request_queue() -> Queue
+fn request_queue() -> Queue
     ensures { λ r. ⌜ r ≡ requestQueue ⌝ }
 {
     Queue {
@@ -30,7 +30,7 @@ pub fn request_queue() -> Queue
 }
 
 // The commit queue: entered at stage 6, the number noted at 8, left at 12.
-pub fn commit_queue() -> Queue
+fn commit_queue() -> Queue
     ensures { λ r. ⌜ r ≡ commitQueue ⌝ }
 {
     Queue {
@@ -124,7 +124,7 @@ pub fn list_requests(store: Store, rows: &[u8], client: u32) -> AdvanceTurn
 }
 
 // What a look that leaves a list comes to: the next stage if none is left on it, else how many are.
-pub fn looked(store: Store, client: u32, list: Set, stage: u32) -> AdvanceTurn
+fn looked(store: Store, client: u32, list: Set, stage: u32) -> AdvanceTurn
     requires { ⌜ client < clients ⌝ }
     ensures { λ r. ⌜ StepUnseen (looked stage client list) store r ⌝ }
 {

@@ -145,9 +145,9 @@ module _ (f : Row → Number) (w n i : ℕ) (s : List ℕ) where
   unfolding newest newer versionAt
   newest-miss h e = rw (rows-step w n i s h, e)
 
-  pub newest-end : n ≤ i → newest f i (rowsFrom w n i s) ≡ Nothing
+  pub newest-none : n ≤ i → newest f i (rowsFrom w n i s) ≡ Nothing
   unfolding newest
-  newest-end h = rw (rows-end w n i s h)
+  newest-none h = rw (rows-end w n i s h)
 
 -- ---- how many cells
 

@@ -18,7 +18,7 @@ use Rattle.spec.specs.Numbers.{upTo}
 use Rattle.spec.specs.Look.{commitOf, isOwn, find, versionOf, newer, versionAt, newest, ownOr, lookFor}
 use Rattle.spec.specs.Share.{count}
 use Rattle.search.specs.Inner.{rowOrCount}
-use Rattle.search.proofs.Folds.{own-yes, own-other-tag, own-other-cell, tag-yes, tag-no, find-hit, find-miss, find-end, count-hit, count-miss, count-end, newest-step, newest-miss, newest-end}
+use Rattle.search.proofs.Folds.{own-yes, own-other-tag, own-other-cell, tag-yes, tag-no, find-hit, find-miss, find-end, count-hit, count-miss, count-end, newest-step, newest-miss, newest-none}
 use Rattle.numbers.proofs.Grouping.{newer-assoc, newer-none}
 
 version-yes : (cell s : ℕ) (cs : List Row) (r : Row) → cellOf r ≡ cell → versionOf cell s cs r ≡ upTo s (commitOf (tagOf r) cs)
@@ -67,7 +67,7 @@ module _ (tag cell s n : ℕ) (d : List ℕ) (cs : List Row) where
 
     pub read-end : n ≤ i → readRest best i ≡ best
     unfolding readRest ownOr
-    read-end h = rw (find-end (isOwn tag cell) 24 n i d h, newest-end (versionOf cell s cs) 24 n i d h) (newer-none best)
+    read-end h = rw (find-end (isOwn tag cell) 24 n i d h, newest-none (versionOf cell s cs) 24 n i d h) (newer-none best)
 
 -- ---- the transaction's own row
 

@@ -40,9 +40,9 @@ module _ (found : ℕ) (p : ℕ → Bool) where
   pub put-start : (j : ℕ) → member found j ≡ (member found j || (ltb j 0 && p j))
   put-start j = rw (le-ltb j 0 (omega arith), or-false)
 
-  pub put-more : (out i : ℕ) → i < clients → ((j : ℕ) → member out j ≡ (member found j || (ltb j i && p j)))
+  pub writers-more : (out i : ℕ) → i < clients → ((j : ℕ) → member out j ≡ (member found j || (ltb j i && p j)))
       → (j : ℕ) → member (if p i then insert clients out i else out) j ≡ (member found j || (ltb j (i + 1) && p j))
-  put-more out i h all j = go (eqb j i) (p i) refl refl
+  writers-more out i h all j = go (eqb j i) (p i) refl refl
     where
       still : (j ≡ i → ⊥) → (t : Bool) → ltb j i ≡ t → ltb j (i + 1) ≡ t
       still n true e = lt-ltb j (i + 1) (omega (arith, ltb-true j i e))
@@ -54,9 +54,9 @@ module _ (found : ℕ) (p : ℕ → Bool) where
       go false true e f = rw (member-insert clients out i j h, e, still (eqb-false j i e) (ltb j i) refl) (all j)
       go false false e f = rw (still (eqb-false j i e) (ltb j i) refl) (all j)
 
-pub put-end : (found queued i j : ℕ) (t : Bool) → queued < 2 ^ clients → clients ≤ i
+pub writers-end : (found queued i j : ℕ) (t : Bool) → queued < 2 ^ clients → clients ≤ i
     → (member found j || (ltb j i && (member queued j && t))) ≡ (member found j || (member queued j && t))
-put-end found queued i j t h l = rw (within queued i j t h l)
+writers-end found queued i j t h l = rw (within queued i j t h l)
 
 -- ---- row by row: the members are the queued clients whose transactions share a cell with the transaction in the rows before i
 

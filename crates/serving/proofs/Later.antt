@@ -14,7 +14,7 @@ use Rattle.spec.specs.Look.{commitOf, isOwn}
 use Rattle.spec.specs.Share.{any, wrote}
 use Rattle.spec.specs.declared.Number.{Number}
 use Rattle.spec.specs.declared.Number.the-variants.{Some, None}
-use Rattle.orderly.proofs.Order.{differ, both-ways, if-left, if-right, some-from, some-in, from-at, rise, number-of, committed}
+use Rattle.orderly.proofs.Order.{differ, both-ways, if-left, if-right, some-from, some-in, from-at, rise, row-number, by-commit}
 use Rattle.search.proofs.Folds.{any-at, own-yes}
 use Rattle.spec.specs.Trim.{between, later, overtaken, stays}
 use Rattle.spec.specs.Orderly.{orderlyCommits}
@@ -49,7 +49,7 @@ module _ (m : ℕ) (c : List ℕ) (e : orderlyCommits (rowsIn 8 m c) ≡ true) w
             → marked low ds (rowsFrom 8 m (j + 1) c) x ≡ true
         number i g q None y z = absurd (differ z refl)
         number i g q (Some v) y z =
-            committed m c e (marked low ds (rowsFrom 8 m (j + 1) c) x ≡ true) (tagOf (rowAt 24 i s)) v y
+            by-commit m c e (marked low ds (rowsFrom 8 m (j + 1) c) x ≡ true) (tagOf (rowAt 24 i s)) v y
             (λ k l t u. from-at (marksCell low ds x) 8 m c (j + 1) k
             (behind k l (rw u (ltb-true own v (if-left (ltb own v) (leb v low) z)))) l
             (rw (u, if-right (ltb own v) (leb v low) z) (any-at (isOwn (commitTag (rowAt 8 k c)) x) 24 n s i g
@@ -75,7 +75,7 @@ module _ (m : ℕ) (c : List ℕ) (e : orderlyCommits (rowsIn 8 m c) ≡ true) w
             any-at (later cs low x own) 24 n s i r
             (rw (
               eq-eqb (cellOf (rowAt 24 i s)) x y,
-              number-of m c e k (tagOf (rowAt 24 i s)) g (sym t),
+              row-number m c e k (tagOf (rowAt 24 i s)) g (sym t),
               lt-ltb own (commitNumber (rowAt 8 k c))
                   (rise m c e j k (omega arith) g),
               le-leb (commitNumber (rowAt 8 k c)) low b,
@@ -93,5 +93,5 @@ module _ (m : ℕ) (c : List ℕ) (e : orderlyCommits (rowsIn 8 m c) ≡ true) w
         → stays low ds cs r ≡ not (marked low ds (rowsFrom 8 m (j + 1) c) x)
     unfolding stays overtaken
     stays-served r t q =
-        rw (number-of m c e j (tagOf r) h (sym t), q) (ap not (both-ways (any (later cs low x own) ds)
+        rw (row-number m c e j (tagOf r) h (sym t), q) (ap not (both-ways (any (later cs low x own) ds)
         (marked low ds (rowsFrom 8 m (j + 1) c) x) later-served served-later))

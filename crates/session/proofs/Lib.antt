@@ -1,4 +1,4 @@
 pub mod Chunks
 pub mod Input
-pub mod Moves
+pub mod MovedBytes
 pub mod Reaching

@@ -103,9 +103,9 @@ module _ {A : Type 0} (s : Store) (d c : List ℕ) where
   ends-same n k a = rw (length-rows 24 (s .used) d, length-rows 8 (s .entries) c, laid-same 24 (s .used) d, laid-same 8 (s .entries) c)
 
   -- nothing changed
-  pub stays : (o : Outcome A) (a : Answer A) → o ≡ record { image = decode s d c; answer = a } → afterOf s d c a ≡ encode s d c o
+  pub image-stays : (o : Outcome A) (a : Answer A) → o ≡ record { image = decode s d c; answer = a } → afterOf s d c a ≡ encode s d c o
   unfolding decode
-  stays o a e = rw e (ends-same (countersIn s) (clientsIn s) a)
+  image-stays o a e = rw e (ends-same (countersIn s) (clientsIn s) a)
 
   module _ (f : Image → Outcome A) where
     -- a store that is not fit

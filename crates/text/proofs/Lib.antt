@@ -1,3 +1,3 @@
 pub mod Lines
-pub mod Values
+pub mod HexDigits
 pub mod Forms

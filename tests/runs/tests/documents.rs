@@ -1,6 +1,6 @@
 //! The pages that lead through the repository name what is there: must-fail edits, definitions and functions, crates.
 
-use std::collections::BTreeSet;
+use std::collections::{BTreeMap, BTreeSet};
 use std::fs;
 use std::path::{Path, PathBuf};
 
@@ -114,6 +114,59 @@ fn what_the_pages_name_is_there() {
     }
     assert!(missing.is_empty(), "{missing:#?}");
     assert!(files >= 150 && functions >= 60, "{files} files, {functions} functions");
+}
+
+/// Every file of definitions and proofs: its name without the ending, and its text.
+fn antt_files() -> Vec<(String, String, String)> {
+    let mut found = Vec::new();
+    for (owner, folder) in crates().into_iter().flat_map(|name| [(name.clone(), "specs"), (name, "proofs")]) {
+        let Ok(entries) = fs::read_dir(at(&format!("crates/{owner}/{folder}"))) else { continue };
+        for path in entries.map(|entry| entry.unwrap().path()).filter(|path| path.extension().is_some_and(|ending| ending == "antt")) {
+            let name = path.file_stem().unwrap().to_string_lossy().into_owned();
+            found.push((format!("{owner}/{folder}"), name, fs::read_to_string(path).unwrap()));
+        }
+    }
+    found
+}
+
+/// In the argument in words a law is named by its file: `Deeds.no-share`.
+#[test]
+fn what_the_argument_cites_is_there() {
+    let files = antt_files();
+    let (mut cited, mut missing) = (0, Vec::new());
+    for item in quoted(&text("docs/PROOF.md")).into_iter().flatten() {
+        let Some((file, names)) = item.split_once('.').or(item.split_once(": ")) else { continue };
+        let named: Vec<_> = files.iter().filter(|(_, name, _)| name == file).collect();
+        if !named.is_empty() && names != "antt" {
+            cited += 1;
+            missing.extend(Some(item.clone()).filter(|_| !named.iter().any(|(_, _, text)| words(names).is_subset(&words(text)))));
+        }
+    }
+    assert!(missing.is_empty(), "{missing:?}");
+    assert!(cited >= 30, "{cited}");
+}
+
+/// A public name of definitions and laws stands in one file. (Fields of records may be called alike, and so is each function's theorem.)
+#[test]
+fn a_public_name_stands_once() {
+    let mut places = BTreeMap::<String, BTreeSet<String>>::new();
+    for (folder, file, text) in antt_files().iter().filter(|(_, file, _)| file != "Lib") {
+        let depth = |line: &str| line.len() - line.trim_start().len();
+        let mut above: Vec<&str> = Vec::new();
+        for line in text.lines().filter(|line| !line.trim().is_empty() && !line.trim_start().starts_with("--")) {
+            above.retain(|outer| depth(outer) < depth(line));
+            let in_record = above.last().is_some_and(|outer| outer.trim_start().trim_start_matches("pub ").starts_with("record "));
+            let rest = line.trim_start().trim_start_matches("abbrev ").trim_start_matches("unfoldable ");
+            if let Some(rest) = rest.strip_prefix("pub ").filter(|_| !in_record) {
+                let name = rest.trim_start_matches("record ").trim_start_matches("data ").split(' ').next().unwrap();
+                places.entry(name.to_string()).or_default().insert(format!("{folder}/{file}"));
+            }
+            above.push(line);
+        }
+    }
+    assert!(places.len() >= 900, "{}", places.len());
+    places.retain(|_, files| files.len() > 1);
+    assert!(places.is_empty(), "{places:#?}");
 }
 
 /// The picture in docs/ARCHITECTURE.md shows every crate, and nothing else: a crate is the first word of its line.

@@ -6,7 +6,7 @@ use native.Mathlib.Omega.{arith}
 use borrow.Author.Needs.{needs}
 use lib.ListN.{getD, List·getD-eq-default}
 use Rattle.spec.specs.Steps.{steps, noStep}
-use Rattle.spec.proofs.Ends.{fit-of, stays}
+use Rattle.spec.proofs.Ends.{fit-of, image-stays}
 use lib.Arith.{lt-of-le-ne}
 use Rattle.advances.proofs.step.Statement.{statement}
 use Rattle.advances.proofs.step.Tie as tie
@@ -133,7 +133,7 @@ returns-15 c =
     (r .0 .0 .0 .0 .0 .0 .0 .0 .0 .0 .0 .0 .1)) (r .0 .0 .0 .0 .0 .0 .0 .0 .0 .0 .0 .1)) (r .0 .0 .0 .0 .0 .0 .0 .0 .0 .0 .1))
     (r .0 .0 .0 .0 .0 .0 .0 .0 .0 .1)) (r .0 .0 .0 .0 .0 .0 .0 .0 .1)) (r .0 .0 .0 .0 .0 .0 .0 .1)) (r .0 .0 .0 .0 .0 .0 .1))
     (r .0 .0 .0 .0 .0 .1)) (r .0 .0 .0 .0 .1)) (r .0 .0 .0 .1)) (r .0 .0 .1)) (r .0 .1)) (r .1) in
-    rw (c .refuse .ensures, List·getD-eq-default steps noStep {n = getD (a .store .stage) (a .client) 0} h) (stays _ _ _ _ _ refl)
+    rw (c .refuse .ensures, List·getD-eq-default steps noStep {n = getD (a .store .stage) (a .client) 0} h) (image-stays _ _ _ _ _ refl)
 
 pub step-spec : {M : Type 1} → statement M
 step-spec =

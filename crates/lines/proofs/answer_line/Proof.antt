@@ -3,7 +3,7 @@
 use mathlib.Core.Path.{refl}
 use Rattle.spec.specs.Session.{response}
 use Rattle.spec.specs.Bytes.{memoryOf}
-use Rattle.lines.proofs.Fronts.{by-form}
+use Rattle.lines.proofs.FrontRows.{by-form}
 use borrow.Author.Needs.{needs}
 use Rattle.lines.proofs.answer_line.Statement.{statement}
 use Rattle.lines.proofs.answer_line.Tie as tie

@@ -7,7 +7,7 @@ use Rattle.spec.specs.Run as call
 use Rattle.spec.specs.declared.Form.the-variants.{Read}
 use Rattle.spec.specs.Answers.{readOf}
 use Rattle.lines.proofs.Readings.{reading-printed, value-short}
-use Rattle.lines.proofs.Fronts.{spoken}
+use Rattle.lines.proofs.FrontRows.{spoken}
 use borrow.Author.Needs.{needs}
 use Rattle.lines.proofs.read_said.Statement.{statement}
 use Rattle.lines.proofs.read_said.Tie as tie

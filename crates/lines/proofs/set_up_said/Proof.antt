@@ -4,7 +4,7 @@ use mathlib.Core.Path.{refl}
 use native.Mathlib.Omega.{arith}
 use lib.ListN.{length-take}
 use Rattle.spec.specs.declared.Form.the-variants.{SetUp}
-use Rattle.lines.proofs.Fronts.{too-many, set-up-spoken}
+use Rattle.lines.proofs.FrontRows.{too-many, set-up-spoken}
 use borrow.Author.Needs.{needs}
 use Rattle.lines.proofs.set_up_said.Statement.{statement}
 use Rattle.lines.proofs.set_up_said.Tie as tie

@@ -6,7 +6,7 @@ use lib.ListN.{length-take, take-append-drop}
 use Rattle.spec.specs.Run as call
 use Rattle.spec.specs.declared.Form.the-variants.{Write}
 use Rattle.spec.specs.Text.{valueIn}
-use Rattle.lines.proofs.Fronts.{spoken}
+use Rattle.lines.proofs.FrontRows.{spoken}
 use borrow.Author.Needs.{needs}
 use Rattle.lines.proofs.write_said.Statement.{statement}
 use Rattle.lines.proofs.write_said.Tie as tie

@@ -3,7 +3,7 @@ use mathlib.Core.Path.{refl, sym, _∙_}
 use borrow.Author.Needs.{needs}
 use Rattle.orderly.proofs.Order.{differ}
 use Rattle.serving.proofs.Marking.{judged-end, used-end}
-use Rattle.marking.proofs.Trimmed.{trimmed-kept}
+use Rattle.marking.proofs.KeptRows.{trimmed-kept}
 use Rattle.marking.proofs.trim_marking.Statement.{statement}
 use Rattle.marking.proofs.trim_marking.Tie as tie
 

@@ -3,7 +3,7 @@
 use mathlib.Core.Path.{sym, _∙_}
 use native.Mathlib.Omega.{arith}
 use borrow.Author.Needs.{needs}
-use Rattle.spec.proofs.Ends.{fit-of, stays}
+use Rattle.spec.proofs.Ends.{fit-of, image-stays}
 use Rattle.placing.proofs.Outcomes.{added-limit, added-full, added-row}
 use Rattle.placing.proofs.add_row.Statement.{statement}
 use Rattle.placing.proofs.add_row.Tie as tie
@@ -30,7 +30,7 @@ same-length : tie.Need-same-length
 same-length c = search needs
 
 returns : tie.Need-returns
-returns c = rw (c .no-figure .ensures) (stays _ _ _ _ _ (added-limit _ _ _ _ _ _
+returns c = rw (c .no-figure .ensures) (image-stays _ _ _ _ _ (added-limit _ _ _ _ _ _
     (sym (c .before .before .limit-reached .ensures) ∙ c .before .if1 .taken)))
 
 no-figure-requires-2 : tie.Need-no-figure-requires-2
@@ -40,7 +40,7 @@ same-length-2 : tie.Need-same-length-2
 same-length-2 c = search needs
 
 returns-2 : tie.Need-returns-2
-returns-2 c = rw (c .no-figure2 .ensures) (stays _ _ _ _ _ (added-full _ _ _ _ _ _
+returns-2 c = rw (c .no-figure2 .ensures) (image-stays _ _ _ _ _ (added-full _ _ _ _ _ _
     (sym (c .before .before .before .before .limit-reached .ensures) ∙ c .before .before .before .if1 .left) (omega arith)))
 
 append-row-requires : tie.Need-append-row-requires

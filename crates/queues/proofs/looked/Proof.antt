@@ -5,7 +5,7 @@ use borrow.Author.Needs.{needs}
 use borrow.Author.Tests.{eq-eqb, ne-eqb}
 use Rattle.spec.specs.Bytes.{decode}
 use Rattle.spec.specs.Steps.{looked}
-use Rattle.spec.proofs.Ends.{stays}
+use Rattle.spec.proofs.Ends.{image-stays}
 use Rattle.queues.proofs.looked.Statement.{statement}
 use Rattle.queues.proofs.looked.Tie as tie
 
@@ -21,7 +21,7 @@ count-requires c κs = search needs
 
 returns-2 : tie.Need-returns-2
 unfolding looked decode
-returns-2 c = λ d e. stays _ d e _ _ (rw (ne-eqb (c .before .before .args .list) 0 (λ z. omega arith), c .count .ensures))
+returns-2 c = λ d e. image-stays _ d e _ _ (rw (ne-eqb (c .before .before .args .list) 0 (λ z. omega arith), c .count .ensures))
 
 pub looked-spec : {M : Type 1} → statement M
 looked-spec = tie.close (tie.spec go-on-requires returns count-requires returns-2)

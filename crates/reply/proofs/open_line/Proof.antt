@@ -4,7 +4,7 @@ use mathlib.Core.List.{[], _∷_, append-assoc}
 use native.Mathlib.Omega.{arith}
 use Rattle.spec.specs.Text.{str, lineText}
 use Rattle.printing.proofs.Texts.{put-then}
-use Rattle.reply.proofs.Ends.{numbered-end}
+use Rattle.reply.proofs.LineEnds.{numbered-end}
 use Rattle.reply.proofs.open_line.Statement.{statement}
 use Rattle.reply.proofs.open_line.Tie as tie
 

@@ -7,7 +7,7 @@ use lib.Dec.{eqb, ltb}
 use lib.ListN.{getD}
 use borrow.Author.Needs.{needs}
 use Rattle.spec.specs.Set.{clients, member}
-use Rattle.search.proofs.Sharing.{put-start, put-more, put-end}
+use Rattle.search.proofs.Sharing.{put-start, writers-more, writers-end}
 use Rattle.search.proofs.with_writers.Statement.{statement}
 use Rattle.search.proofs.with_writers.Tie as tie
 
@@ -26,14 +26,14 @@ loop-again c =
     let a = c .before .before .before .before .args in
     let loop = c .before .before .before .loop in
     rw (c .with-writer .ensures)
-    (put-more (a .found) (λ j. member (a .queued) j && eqb (getD (a .numbers .now) j 0) (a .tag)) (loop .out) (loop .i) (omega arith) (loop .inv))
+    (writers-more (a .found) (λ j. member (a .queued) j && eqb (getD (a .numbers .now) j 0) (a .tag)) (loop .out) (loop .i) (omega arith) (loop .inv))
 
 returns : tie.Need-returns Inv-loop μ-loop
 returns c =
     let start = c .before .before in
     let a = start .args in
     let loop = c .before .loop in
-    λ j. loop .inv j ∙ put-end (a .found) (a .queued) (loop .i) j (eqb (getD (a .numbers .now) j 0) (a .tag)) (start .fits .queued .fits)
+    λ j. loop .inv j ∙ writers-end (a .found) (a .queued) (loop .i) j (eqb (getD (a .numbers .now) j 0) (a .tag)) (start .fits .queued .fits)
     (omega arith)
 
 pub with-writers-spec : {M : Type 1} → statement M

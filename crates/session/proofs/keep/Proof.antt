@@ -5,7 +5,7 @@ use mathlib.Core.Path.{_≡_, refl}
 use native.Mathlib.Omega.{arith}
 use borrow.Author.Needs.{needs}
 use lib.ListN.{length, take, drop, length-set}
-use Rattle.session.proofs.Moves.{move-more, move-rest, move-full, move-all}
+use Rattle.session.proofs.MovedBytes.{move-more, move-rest, move-full, move-all}
 use Rattle.session.proofs.keep.Statement.{statement}
 use Rattle.session.proofs.keep.Tie as tie
 

@@ -2,7 +2,7 @@
 -- Assumes nothing.
 use native.Mathlib.Omega.{arith}
 use borrow.Author.Needs.{needs}
-use Rattle.spec.proofs.Ends.{stays}
+use Rattle.spec.proofs.Ends.{image-stays}
 use Rattle.steps.proofs.Outcomes.{commit-full, commit-added}
 use Rattle.steps.proofs.add_commit.Statement.{statement}
 use Rattle.steps.proofs.add_commit.Tie as tie
@@ -11,7 +11,7 @@ refuse-requires : tie.Need-refuse-requires
 refuse-requires c κs = search needs
 
 returns : tie.Need-returns
-returns c = λ d. rw (c .refuse .ensures) (stays _ d _ _ _ (commit-full _ d _ _ (omega arith)))
+returns c = λ d. rw (c .refuse .ensures) (image-stays _ d _ _ _ (commit-full _ d _ _ (omega arith)))
 
 mul-n : tie.Need-mul-n
 mul-n c = search needs

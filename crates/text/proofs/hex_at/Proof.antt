@@ -3,7 +3,7 @@ use borrow.Author.Needs.{needs}
 use mathlib.Core.Path.{_≡_, _∙_, refl, sym}
 use lib.ListN.{drop}
 use Rattle.spec.specs.Text.{allHex}
-use Rattle.text.proofs.Values.{hex-end, hex-short, hex-other, hex-more}
+use Rattle.text.proofs.HexDigits.{hex-end, hex-short, hex-other, hex-more}
 use Rattle.text.proofs.hex_at.Statement.{statement}
 use Rattle.text.proofs.hex_at.Tie as tie
 

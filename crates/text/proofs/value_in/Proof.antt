@@ -7,7 +7,7 @@ use native.Mathlib.Omega.{arith}
 use lib.ListN.{length, take, drop, length-set}
 use borrow.Author.Tests.{le-leb, lt-leb}
 use Rattle.spec.specs.Text.{hexBytes, valueIn}
-use Rattle.text.proofs.Values.{bytes-more, bytes-end}
+use Rattle.text.proofs.HexDigits.{bytes-more, bytes-end}
 use Rattle.text.proofs.value_in.Statement.{statement}
 use Rattle.text.proofs.value_in.Tie as tie
 
