@@ -13,13 +13,15 @@ use native.Mathlib.Omega.{arith}
 use borrow.Author.Tests.{ne-eqb}
 use lib.ListN.{replicate}
 use Rattle.spec.specs.Set.{clients, bit, member, insert, remove, size, collect, strike}
-use Rattle.spec.specs.Rows.{valueOf, spliced, number, bytesOf, dataRow, tagOf, cellOf, commitRow, commitNumber, commitTag, rowAt, rowsIn, rowsFrom, layout, filter, hasTag}
+use Rattle.spec.specs.Rows.{valueOf, spliced, number, bytesOf, dataRow, tagOf, cellOf, commitRow, commitNumber, commitTag, rowAt, rowsIn}
+use Rattle.spec.specs.Rows.{rowsFrom, layout, filter, hasTag}
 use Rattle.spec.specs.Numbers.{lesser, smallest, above, upTo}
 use Rattle.spec.specs.Look.{commitOf, isOwn, find, versionOf, newer, versionAt, newest, ownOr, lookFor}
 use Rattle.spec.specs.Share.{any, count, wrote, cellsOf, shares, clash, conflict}
 use Rattle.spec.specs.Image.{cleared, closed, empty}
 use Rattle.spec.specs.Calls.{begun, begin, read, replaced, added, write, removed, abandon}
-use Rattle.spec.specs.Steps.{queued, struck, others, goOn, enter, takeRequest, listRequests, looked, lookRequests, check, takeCommit, listCommits, lookCommits, addCommit, leaveCommits, leaveRequests, finished, advance}
+use Rattle.spec.specs.Steps.{queued, struck, others, goOn, enter, takeRequest, listRequests, looked, lookRequests, check, takeCommit}
+use Rattle.spec.specs.Steps.{listCommits, lookCommits, addCommit, leaveCommits, leaveRequests, finished, advance}
 use Rattle.spec.specs.declared.Progress.the-variants.{Conflict}
 use Rattle.spec.specs.Answers.{Answered}
 use Rattle.spec.specs.Bytes.{decode, storeOf, encode, known, fits, onBytes, accepts, setUp, Memory}

@@ -21,9 +21,12 @@ use Rattle.spec.specs.Run.{Call, Begin, Read, Write, Advance, Abandon, Trim, Fr
 use Rattle.spec.specs.Table.{Observed}
 use Rattle.history.proofs.Lists.{ite-elim, same-some}
 use Rattle.history.proofs.Tickets.{listing, look, listSize, clear-own, clear-fewer, listing-only, look-fewer}
-use Rattle.history.proofs.Model.{Client, State, DRow, CRow, Out, out, putₛ, same, clearC, clearBoth, closedₛ, rph, cph, sharing?, begunₛ, overwritten, addedₛ, removedₛ, leave, takeR, takeC, listR, listC, lookR, lookC, checkedₛ, committed, trimmedₛ, figured, move, step-to, atStageₛ, withRequest, withCommit, withRwait, withCwait}
+use Rattle.history.proofs.Model.{Client, State, DRow, CRow, Out, out, putₛ, same, clearC, clearBoth, closedₛ, rph, cph, sharing?, begunₛ}
+use Rattle.history.proofs.Model.{overwritten, addedₛ, removedₛ, leave, takeR, takeC, listR, listC, lookR, lookC, checkedₛ, committed}
+use Rattle.history.proofs.Model.{trimmedₛ, figured, move, step-to, atStageₛ, withRequest, withCommit, withRwait, withCwait}
 use Rattle.history.proofs.Moves.{put-at, put-off, Tame, tame-same, tame-C, tame-both}
-use Rattle.history.proofs.Transition.{Transition, no-begin, no-read, no-write, no-advance, no-abandon, begins, reads, replaces, adds, at0, ends0, at1, at2, at3, at4, at5, at6, at7, at8, at9, at10, at11, at12, at13, abandons, trims, frees}
+use Rattle.history.proofs.Transition.{Transition, no-begin, no-read, no-write, no-advance, no-abandon, begins, reads, replaces, adds, at0}
+use Rattle.history.proofs.Transition.{ends0, at1, at2, at3, at4, at5, at6, at7, at8, at9, at10, at11, at12, at13, abandons, trims, frees}
 use Rattle.demands.specs.Rounds.{named, Fate, StillOpen, Abandoned, byAdvance, byAbandon, fateBy, isOver, isAdvance, serves}
 use Rattle.history.proofs.Effects.{Effect, quiet, beginning, closing, ups, stateWith, Fork, Up}
 

@@ -16,7 +16,8 @@ use Rattle.spec.specs.Answers.{Answer, Answered, Refused}
 use Rattle.spec.specs.Rows.{cells}
 use Rattle.spec.specs.Run.{Call, Begin, Read, Write, Advance, Abandon, Trim, Free}
 use Rattle.spec.specs.Bytes.{Memory}
-use Rattle.spec.specs.Table.{Value, Values, has, Open, Table, blank, unwritten, override, withClient, withWrites, atStage, newlyOpen, onStage, Observed, update}
+use Rattle.spec.specs.Table.{Value, Values, has, Open, Table, blank, unwritten, override, withClient, withWrites, atStage, newlyOpen}
+use Rattle.spec.specs.Table.{onStage, Observed, update}
 use Rattle.spec.specs.Right.{Bounds, WriteAllowed, Right, RightRun}
 use Rattle.history.proofs.Lists.{none-some, same-some}
 use Rattle.history.proofs.Counts.{valued-none, valued-same, valued-more}

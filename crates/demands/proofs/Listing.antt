@@ -29,7 +29,8 @@ use Rattle.spec.specs.Table.{Observed}
 use Rattle.spec.specs.Right.{Bounds}
 use Rattle.spec.proofs.Ends.{accepted}
 use Rattle.demands.specs.Afterwards.{afterRun}
-use Rattle.demands.specs.Listing.{WaitingLists, requestLists, commitLists, OnList, InQueue, transactionOf, SameTransaction, advanced, WasListed, NamesTransaction, NameTransactions, ListsNameTransactions}
+use Rattle.demands.specs.Listing.{WaitingLists, requestLists, commitLists, OnList, InQueue, transactionOf, SameTransaction, advanced}
+use Rattle.demands.specs.Listing.{WasListed, NamesTransaction, NameTransactions, ListsNameTransactions}
 use Rattle.history.proofs.Tickets.{clear-own}
 use Rattle.history.proofs.Searches.{says-yes}
 use Rattle.history.proofs.Listings.{Phased, phased-requests, phased-commits}

@@ -15,7 +15,8 @@ use Rattle.spec.specs.Right.{AllUnfit}
 use Rattle.spec.specs.Text.{formOf}
 use Rattle.spec.specs.Session.{initial, front, response, answerTo, answers, lines, output, memoryAfter}
 use Rattle.demands.specs.Demand.{Demand3}
-use Rattle.demands.specs.Printed.{asked, askedBy, callsIn, printed, takesEffect, isSetUp, NoSetUp, Cut, dataAt, commitAt, setUpAt, RightText, UnfitText, LastSetUp}
+use Rattle.demands.specs.Printed.{asked, askedBy, callsIn, printed, takesEffect, isSetUp, NoSetUp, Cut, dataAt, commitAt, setUpAt}
+use Rattle.demands.specs.Printed.{RightText, UnfitText, LastSetUp}
 use Rattle.history.proofs.Decimals.{first-small}
 use Rattle.demands.proofs.Fronts.{Housed, good-initial, setUpOn, set-up-answered, front-set-up, line-good, line-follows}
 use Rattle.history.proofs.AllCalls.{all-unfit}

@@ -18,7 +18,8 @@ use Rattle.history.proofs.Effects.{Side, requestSide, commitSide, out-of-commit
 use Rattle.demands.proofs.Changes.{goes-up, goes-out, stays-R, stays-C}
 use Rattle.demands.proofs.Grown.{next, client, Grown, inv, at-most-13, does, gets, same-after}
 use Rattle.demands.proofs.AfterRounds.{Following, Stable, Hit, following-stays, andThen, so, both, one-round}
-use Rattle.demands.proofs.Drain.{phase, ticket, list, counter, Line, HasNumber, Far, Gone, counter-rises, held, gone-stable, ahead-less, cost-is, drains}
+use Rattle.demands.proofs.Drain.{phase, ticket, list, counter, Line, HasNumber, Far, Gone, counter-rises, held, gone-stable}
+use Rattle.demands.proofs.Drain.{ahead-less, cost-is, drains}
 
 -- ---- the queues as lines
 

@@ -28,7 +28,8 @@ use Rattle.history.proofs.Walk.{empty-view}
 use Rattle.history.proofs.Erase.{erase, erase-empty, openOf, live-some, some-live}
 use Rattle.history.proofs.AllCalls.{observed-by, same-observed, same-memory, fed, start-good, all-observe-refused}
 use Rattle.demands.specs.Afterwards.{afterRun, tableAfter}
-use Rattle.demands.specs.Rounds.{AllBelow, isOver, fateBy, earlier, fate, Queued, serves, served, Round, Rounds, roundLimit, ClosedWithin, NobodyWaits, WhoeverCalls, inTurn, RoundsExist}
+use Rattle.demands.specs.Rounds.{AllBelow, isOver, fateBy, earlier, fate, Queued, serves, served, Round, Rounds, roundLimit}
+use Rattle.demands.specs.Rounds.{ClosedWithin, NobodyWaits, WhoeverCalls, inTurn, RoundsExist}
 use Rattle.history.proofs.Effects.{OnLists, requestSide, commitSide}
 use Rattle.demands.proofs.Grown.{next, client, Grown, inv, is-open, is-below, at-most-13, grows, grows-table}
 use Rattle.demands.proofs.AfterRounds.{run, runs, meets, AllRounds, AllNamed}

@@ -21,7 +21,8 @@ use Rattle.spec.specs.declared.Number.the-variants.{Some, None}
 use Rattle.spec.specs.Share.{any, shares, conflict}
 use Rattle.spec.specs.declared.Progress.the-variants.{Stage, Waiting, Done}
 use Rattle.spec.specs.Answers.{Answered, noClient, notOpen}
-use Rattle.spec.specs.Image.{Clients, Image, withClients, withRows, withRequested, withTaken, withLast, setRequest, setCommit, setRequestWaits, setCommitWaits, isOpen, stageOf, numberOf, snapshotOf, requestOf, commitNumberOf}
+use Rattle.spec.specs.Image.{Clients, Image, withClients, withRows, withRequested, withTaken, withLast, setRequest, setCommit}
+use Rattle.spec.specs.Image.{setRequestWaits, setCommitWaits, isOpen, stageOf, numberOf, snapshotOf, requestOf, commitNumberOf}
 use Rattle.spec.specs.Calls.{replies}
 use Rattle.spec.specs.Numbers.{top}
 use Rattle.spec.specs.Steps as st
@@ -33,7 +34,8 @@ use Rattle.history.proofs.Tickets.{listing, look}
 use Rattle.history.proofs.Model as m
 use Rattle.history.proofs.Model.{DRow, putₛ, clearC, out, atStageₛ, withRwait, withCwait, rphase, cphase, sharing?}
 use Rattle.history.proofs.Transition.{HasRow, no-advance, at0, ends0, at1, at2, at3, at4, at5, at6, at7, at8, at9, at10, at11, at12, at13}
-use Rattle.history.proofs.View.{dataRowOf, commitRowOf, clientOf, clientsAs, view, stage-put, request-put, commit-put, requestWaits-put, commitWaits-put, left-put, closed-put, waits-put, map-join, stage-at, past-number}
+use Rattle.history.proofs.View.{dataRowOf, commitRowOf, clientOf, clientsAs, view, stage-put, request-put, commit-put}
+use Rattle.history.proofs.View.{requestWaits-put, commitWaits-put, left-put, closed-put, waits-put, map-join, stage-at, past-number}
 use Rattle.history.proofs.Searches.{has-row, no-row, shares-view, asNumber, numberIn, check-view}
 use Rattle.history.proofs.Listings.{count-view, size-none, size-zero, phased-requests, phased-commits, others-view, some-view, look-view}
 use Rattle.history.proofs.Simulates.{observedOutcome, Simulates, simulates, simulates-if, not-open, open-number}

@@ -11,9 +11,12 @@ use native.Mathlib.Decide.{ℕ-discrete, decLe}
 use native.Mathlib.Omega.{arith}
 use Rattle.history.proofs.Lists.{first-in, ite-elim}
 use Rattle.history.proofs.Tickets.{Others, ticket-low, taken, own, listing, listing-has, look, look-keeps, listSize, count-none}
-use Rattle.history.proofs.Model.{freeₛ, DRow, Client, State, findₛ, valueAtₛ, rphase, cphase, rph, cph, putₛ, same, clearC, atStageₛ, withRequest, withCommit, withRwait, withCwait, Out, out, step-to, takeR, takeC, listR, listC, lookR, lookC, sharing?, withClientsₛ}
+use Rattle.history.proofs.Model.{freeₛ, DRow, Client, State, findₛ, valueAtₛ, rphase, cphase, rph, cph, putₛ, same, clearC, atStageₛ}
+use Rattle.history.proofs.Model.{withRequest, withCommit, withRwait, withCwait, Out, out, step-to, takeR, takeC, listR, listC, lookR}
+use Rattle.history.proofs.Model.{lookC, sharing?, withClientsₛ}
 use Rattle.history.proofs.Booked.{is-some, value-at, row-find}
-use Rattle.history.proofs.Plain.{Plain, setP, updateₚ, onAdvanceₚ, onProgressₚ, onStageₚ, movedₚ, onNumberₚ, Rightₚ, RightAdvanceₚ, Sharesₚ, Wroteₚ, restaged}
+use Rattle.history.proofs.Plain.{Plain, setP, updateₚ, onAdvanceₚ, onProgressₚ, onStageₚ, movedₚ, onNumberₚ, Rightₚ, RightAdvanceₚ}
+use Rattle.history.proofs.Plain.{Sharesₚ, Wroteₚ, restaged}
 use Rattle.history.proofs.Transition.{HasRow}
 use Rattle.history.proofs.Invariant.{lateness, Rel, Always, RQ, CQ, Inv}
 use Rattle.history.proofs.Moves.{put-at, setP-at, setP-off, each, Tame, tame-same, tame-C, off, others-R, others-C, stepped, moves}

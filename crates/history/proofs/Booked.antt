@@ -9,7 +9,8 @@ use mathlib.Core.Option.{Option, none, some, IsSome, Option·some-injective}
 use native.Mathlib.Decide.{ℕ-discrete, decLe}
 use native.Mathlib.Omega.{arith}
 use lib.ListN.{length}
-use Rattle.history.proofs.Lists.{in-nil, in-case, in-one, in-left, append-case, ite-elim, none-some, option-case, drop?, drop-in, first, first-in, first-none, first-append, first-keep, orNext}
+use Rattle.history.proofs.Lists.{in-nil, in-case, in-one, in-left, append-case, ite-elim, none-some, option-case, drop?, drop-in}
+use Rattle.history.proofs.Lists.{first, first-in, first-none, first-append, first-keep, orNext}
 use Rattle.history.proofs.Model.{DRow, CRow, findₛ, valueAtₛ, numOf, numberAt, replace, some?, without}
 use Rattle.history.proofs.Plain.{Entry, newerₚ, olderₚ, lastOfₚ}
 use Rattle.history.proofs.Invariant.{Uniq, RisingBook, valuesUpTo, valuesOf}

@@ -18,7 +18,9 @@ use Rattle.spec.specs.declared.OneNumber.the-variants.{Only, NotOne}
 use Rattle.spec.specs.declared.TwoNumbers.{TwoNumbers}
 use Rattle.spec.specs.declared.TwoNumbers.the-variants.{Both, NotTwo}
 use Rattle.spec.specs.Numbers.{top}
-use Rattle.spec.specs.Text.{str, digitVal, digitsFrom, decimalFrom, decimalAt, begins, stands, bracketAt, hexAt, spaced, spacedAt, oneAt, withFirst, twoAfter, twoAt, setUpWith, setUpAfter, setUpOf, clientForm, readWith, writeValue, writeAfter, writeOf, formIn, formOf}
+use Rattle.spec.specs.Text.{str, digitVal, digitsFrom, decimalFrom, decimalAt, begins, stands, bracketAt, hexAt, spaced, spacedAt, oneAt}
+use Rattle.spec.specs.Text.{withFirst, twoAfter, twoAt, setUpWith, setUpAfter, setUpOf, clientForm, readWith, writeValue, writeAfter}
+use Rattle.spec.specs.Text.{writeOf, formIn, formOf}
 
 -- ---- a number in a line
 

@@ -13,10 +13,15 @@ use native.Mathlib.Omega.{arith}
 use lib.ListN.{length}
 use Rattle.history.proofs.Lists.{in-case, length-drop?, none-some, option-case}
 use Rattle.history.proofs.Tickets.{TicketQueue, ticket-low, exclusive}
-use Rattle.history.proofs.Model.{newcomer, DRow, Client, State, findₛ, writesOf, rphase, cphase, rph, cph, putₛ, same, closedₛ, clearBoth, atStageₛ, out, checkedₛ, committed, begunₛ, lookup, committedAt, figured, freeₛ, without, leave, removedₛ, withData, trimmedₛ, smallestₛ, checkKey, snapshots, lesserₛ, default, passed?, lowₛ as lowOf}
-use Rattle.history.proofs.Plain.{restaged, onProgressₚ, opening, rewritten, Entry, PClient, Plain, NoClashₚ, setP, updateₚ, onBeginₚ, onWriteₚ, onAbandonₚ, onAdvanceₚ, onStageₚ, onCommitₚ, onCloseₚ, none-yet, Sharesₚ}
+use Rattle.history.proofs.Model.{newcomer, DRow, Client, State, findₛ, writesOf, rphase, cphase, rph, cph, putₛ, same, closedₛ}
+use Rattle.history.proofs.Model.{clearBoth, atStageₛ, out, checkedₛ, committed, begunₛ, lookup, committedAt, figured, freeₛ, without}
+use Rattle.history.proofs.Model.{leave, removedₛ, withData, trimmedₛ, smallestₛ, checkKey, snapshots, lesserₛ, default, passed?}
+use Rattle.history.proofs.Model.{lowₛ as lowOf}
+use Rattle.history.proofs.Plain.{restaged, onProgressₚ, opening, rewritten, Entry, PClient, Plain, NoClashₚ, setP, updateₚ, onBeginₚ}
+use Rattle.history.proofs.Plain.{onWriteₚ, onAbandonₚ, onAdvanceₚ, onStageₚ, onCommitₚ, onCloseₚ, none-yet, Sharesₚ}
 use Rattle.history.proofs.Invariant.{Reader, readerOf, lateness, Tab, OneClient, Rel, Always, Inv}
-use Rattle.history.proofs.Moves.{put-at, put-off, setP-at, setP-off, each, Tame, tame-same, tame-both, others-R, others-C, moves, seenOf, seen-off, seen-at, one-off}
+use Rattle.history.proofs.Moves.{put-at, put-off, setP-at, setP-off, each, Tame, tame-same, tame-both, others-R, others-C, moves}
+use Rattle.history.proofs.Moves.{seenOf, seen-off, seen-at, one-off}
 use Rattle.history.proofs.Booked.{is-some, find-row, row-find, none-found, find-without, without-none, Written, newerₚ-cons}
 use Rattle.history.proofs.Transition.{HasRow}
 use Rattle.history.proofs.Tables.{tab-done, tab-removed, tab-begun, tab-written, tab-committed, tab-trimmed, trimDat, was}

@@ -26,7 +26,8 @@ use Rattle.spec.specs.Right.{Bounds, lastNumber, Clash, BeginRefusal, ReadRefus
 use Rattle.history.proofs.Lists.{in-nil, in-case, in-one, in-left, in-right, append-case, none-some, same-some}
 use Rattle.history.proofs.Counts.{has-some, some-has}
 use Rattle.history.proofs.Plain as own
-use Rattle.history.proofs.Plain.{Entry, PClient, Plain, none-yet, restaged, opening, rewritten, onBeginₚ, onWriteₚ, onAbandonₚ, onAdvanceₚ, onProgressₚ, onStageₚ, updateₚ, lastOfₚ, newerₚ, olderₚ}
+use Rattle.history.proofs.Plain.{Entry, PClient, Plain, none-yet, restaged, opening, rewritten, onBeginₚ, onWriteₚ, onAbandonₚ}
+use Rattle.history.proofs.Plain.{onAdvanceₚ, onProgressₚ, onStageₚ, updateₚ, lastOfₚ, newerₚ, olderₚ}
 
 -- ---- the map
 

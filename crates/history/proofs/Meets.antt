@@ -11,9 +11,13 @@ use Rattle.history.proofs.Lists.{ite-elim, option-case}
 use Rattle.history.proofs.Sums.{sum, sum-put, sum-has}
 use Rattle.history.proofs.Tickets.{look, listSize}
 use Rattle.spec.specs.Right.{Bounds}
-use Rattle.history.proofs.Model.{newcomer, Client, closedₛ, putₛ, same, clearC, clearBoth, State, Out, rph, cph, smallestₛ, checkKey, atStageₛ, withRequest, withCommit, begunₛ, overwritten, addedₛ, trimmedₛ, takeR, takeC, listR, listC, lookR, lookC, checkedₛ, committed, fresh}
+use Rattle.history.proofs.Model.{newcomer, Client, closedₛ, putₛ, same, clearC, clearBoth, State, Out, rph, cph, smallestₛ, checkKey}
+use Rattle.history.proofs.Model.{atStageₛ, withRequest, withCommit, begunₛ, overwritten, addedₛ, trimmedₛ, takeR, takeC, listR}
+use Rattle.history.proofs.Model.{listC, lookR, lookC, checkedₛ, committed, fresh}
 use Rattle.history.proofs.Moves.{Tame, tame-same, tame-C, tame-both, put-at, put-off}
-use Rattle.history.proofs.Transition.{Transition, no-begin, no-read, no-write, no-advance, no-abandon, begins, reads, replaces, adds, at0, ends0, at1, at2, at3, at4, at5, at6, at7, at8, at9, at10, at11, at12, at13, abandons, trims, frees}
+use Rattle.history.proofs.Transition.{Transition, no-begin, no-read, no-write, no-advance, no-abandon, begins, reads, replaces, adds}
+use Rattle.history.proofs.Transition.{at0, ends0, at1, at2, at3, at4, at5, at6, at7, at8, at9, at10, at11, at12, at13, abandons}
+use Rattle.history.proofs.Transition.{trims, frees}
 use Rattle.spec.specs.Answers.{Answer}
 use Rattle.spec.specs.declared.Progress.{Progress}
 use Rattle.spec.specs.Run.{Call}

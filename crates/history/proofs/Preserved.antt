@@ -19,13 +19,16 @@ use Rattle.spec.specs.Table.{Observed}
 use Rattle.spec.specs.Right.{Bounds, BeginRefusal, ReadRefusal, AbandonRefusal, nextAfter}
 use Rattle.history.proofs.Lists.{in-nil, ite-elim, option-case, none-some, first}
 use Rattle.history.proofs.Tickets.{idle-queue, look, listSize}
-use Rattle.history.proofs.Model.{DRow, State, Out, rph, cph, begunₛ, overwritten, addedₛ, trimmedₛ, takeR, takeC, listR, listC, lookR, lookC, checkedₛ, smallestₛ, checkKey, committed, closedₛ, numOf, rphase, fresh}
+use Rattle.history.proofs.Model.{DRow, State, Out, rph, cph, begunₛ, overwritten, addedₛ, trimmedₛ, takeR, takeC, listR, listC}
+use Rattle.history.proofs.Model.{lookR, lookC, checkedₛ, smallestₛ, checkKey, committed, closedₛ, numOf, rphase, fresh}
 use Rattle.history.proofs.Plain.{Plain, updateₚ, onBeginₚ, onWriteₚ, onAbandonₚ, onAdvanceₚ, onProgressₚ, emptyₚ, none-yet, lastOfₚ}
 use Rattle.history.proofs.Invariant.{Inv, valuesOf}
 use Rattle.history.proofs.Booked.{write-added, write-replaced}
 use Rattle.history.proofs.Arms.{Good, arm0, arm1, arm2, arm3, arm4, arm6, arm7, arm8, arm9, arm10, arm12, cph-in}
 use Rattle.history.proofs.Deeds.{begin-good, read-good, write-refused, write-good, abandon-good, arm0-ends, arm5, arm11, arm13, trim-good}
-use Rattle.history.proofs.Transition.{Transition, no-begin, no-read, no-write, no-advance, no-abandon, begins, reads, replaces, adds, at0, ends0, at1, at2, at3, at4, at5, at6, at7, at8, at9, at10, at11, at12, at13, abandons, trims, frees}
+use Rattle.history.proofs.Transition.{Transition, no-begin, no-read, no-write, no-advance, no-abandon, begins, reads, replaces, adds}
+use Rattle.history.proofs.Transition.{at0, ends0, at1, at2, at3, at4, at5, at6, at7, at8, at9, at10, at11, at12, at13, abandons}
+use Rattle.history.proofs.Transition.{trims, frees}
 
 module _ {bounds : Bounds} {s : State} {p : Plain} (inv : Inv bounds s p) where
   -- an open client by the plain table is one by the store

@@ -9,14 +9,20 @@ use mathlib.Core.Option.{none, some}
 use native.Mathlib.Decide.{ℕ-discrete}
 use native.Mathlib.Omega.{arith}
 use lib.ListN.{length}
-use Rattle.history.proofs.Lists.{in-nil, in-case, in-one, in-left, append-case, any?, drop?, drop-in, in-drop, length-drop?, ite-elim, option-case, none-some, first-none}
+use Rattle.history.proofs.Lists.{in-nil, in-case, in-one, in-left, append-case, any?, drop?, drop-in, in-drop, length-drop?}
+use Rattle.history.proofs.Lists.{ite-elim, option-case, none-some, first-none}
 use Rattle.history.proofs.Tickets.{look, listSize}
 use Rattle.spec.specs.Right.{Bounds}
-use Rattle.history.proofs.Model.{DRow, CRow, Client, closedₛ, putₛ, same, clearC, clearBoth, State, Out, rph, cph, smallestₛ, checkKey, atStageₛ, withRequest, withCommit, begunₛ, overwritten, addedₛ, trimmedₛ, without, takeR, takeC, listR, listC, lookR, lookC, checkedₛ, committed, fresh, numOf, numberAt, replace, valueAtₛ, some?, Passed, passed?, bare?, lowₛ}
+use Rattle.history.proofs.Model.{DRow, CRow, Client, closedₛ, putₛ, same, clearC, clearBoth, State, Out, rph, cph, smallestₛ}
+use Rattle.history.proofs.Model.{checkKey, atStageₛ, withRequest, withCommit, begunₛ, overwritten, addedₛ, trimmedₛ, without, takeR}
+use Rattle.history.proofs.Model.{takeC, listR, listC, lookR, lookC, checkedₛ, committed, fresh, numOf, numberAt, replace, valueAtₛ}
+use Rattle.history.proofs.Model.{some?, Passed, passed?, bare?, lowₛ}
 use Rattle.history.proofs.Plain.{Plain}
 use Rattle.history.proofs.Invariant.{Inv, lateness}
 use Rattle.history.proofs.Moves.{Tame, tame-same, tame-C, tame-both, put-at, put-off, each}
-use Rattle.history.proofs.Transition.{HasRow, Transition, no-begin, no-read, no-write, no-advance, no-abandon, begins, reads, replaces, adds, at0, ends0, at1, at2, at3, at4, at5, at6, at7, at8, at9, at10, at11, at12, at13, abandons, trims, frees}
+use Rattle.history.proofs.Transition.{HasRow, Transition, no-begin, no-read, no-write, no-advance, no-abandon, begins, reads}
+use Rattle.history.proofs.Transition.{replaces, adds, at0, ends0, at1, at2, at3, at4, at5, at6, at7, at8, at9, at10, at11, at12}
+use Rattle.history.proofs.Transition.{at13, abandons, trims, frees}
 use Rattle.spec.specs.Answers.{Answer}
 use Rattle.spec.specs.declared.Progress.{Progress}
 use Rattle.spec.specs.Run.{Call}

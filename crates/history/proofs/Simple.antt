@@ -29,7 +29,8 @@ use Rattle.history.proofs.Wellformed.{Wellformed, Tidy}
 use Rattle.history.proofs.Model as m
 use Rattle.history.proofs.Model.{out, largest, readKey, lookup, committedAt}
 use Rattle.history.proofs.Transition.{no-begin, no-read, no-abandon, begins, reads, abandons, frees}
-use Rattle.history.proofs.View.{dataRowOf, commitRowOf, Fields, clientOf, clientsAs, view, clients-put, closed-put, none-listed, stage-at, past-number, free-at, W-at}
+use Rattle.history.proofs.View.{dataRowOf, commitRowOf, Fields, clientOf, clientsAs, view, clients-put, closed-put, none-listed}
+use Rattle.history.proofs.View.{stage-at, past-number, free-at, W-at}
 use Rattle.history.proofs.Searches.{ownValue, own-view, versionIn, newest-view, removed-rows}
 use Rattle.history.proofs.Simulates.{observedOutcome, Simulates, simulates, simulates-if, shut, same-open, not-open, open-number}
 

@@ -16,7 +16,9 @@ use Rattle.history.proofs.Model.{DRow, CRow, findₛ, valueAtₛ, numOf
 use Rattle.history.proofs.Plain.{Entry, lastOfₚ, written}
 use Rattle.history.proofs.Invariant.{Reader, valuesOf, Superseded, RowOf, Mine, Tab}
 use Rattle.history.proofs.Moves.{each}
-use Rattle.history.proofs.Booked.{is-some, value-tag, find-row, none-found, find-uniq, uniq-drop, find-without, Written, book-max, newerₚ-none, newerₚ-cons, older-all, older-cons, upTo-whole, upTo-skip, row-number-at, num-old, num-new, num-none, num-case}
+use Rattle.history.proofs.Booked.{is-some, value-tag, find-row, none-found, find-uniq, uniq-drop, find-without, Written, book-max}
+use Rattle.history.proofs.Booked.{newerₚ-none, newerₚ-cons, older-all, older-cons, upTo-whole, upTo-skip, row-number-at, num-old}
+use Rattle.history.proofs.Booked.{num-new, num-none, num-case}
 use Rattle.spec.specs.Table.{Value, override, orElse, overlay}
 use Rattle.spec.specs.Rows.{cells}
 use borrow.Author.Tests.{eq-eqb, ne-eqb}

@@ -21,7 +21,9 @@ use Rattle.spec.specs.Run.{Call, Begin, Read, Write, Advance, Abandon, Trim, Fr
 use Rattle.spec.specs.Table.{Value, Observed}
 use Rattle.spec.specs.Right.{BeginRefusal, ReadRefusal, WriteAllowed, WriteRefusal, AbandonRefusal}
 use Rattle.history.proofs.Tickets.{look}
-use Rattle.history.proofs.Model.{DRow, State, Out, out, writesOf, freeₛ, rph, cph, atStageₛ, clearC, putₛ, withClientsₛ, begunₛ, lookup, overwritten, addedₛ, figured, removedₛ, leave, step-to, takeR, takeC, listR, listC, lookR, lookC, checkedₛ, smallestₛ, checkKey, committed, trimmedₛ}
+use Rattle.history.proofs.Model.{DRow, State, Out, out, writesOf, freeₛ, rph, cph, atStageₛ, clearC, putₛ, withClientsₛ, begunₛ}
+use Rattle.history.proofs.Model.{lookup, overwritten, addedₛ, figured, removedₛ, leave, step-to, takeR, takeC, listR, listC, lookR}
+use Rattle.history.proofs.Model.{lookC, checkedₛ, smallestₛ, checkKey, committed, trimmedₛ}
 
 -- the transaction has a data row
 abbrev pub HasRow : ℕ → List DRow → Type 0

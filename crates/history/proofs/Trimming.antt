@@ -27,7 +27,8 @@ use Rattle.history.proofs.Model as m
 use Rattle.history.proofs.Model.{out, passed?, bare?, numOf}
 use Rattle.history.proofs.Transition.{trims}
 use Rattle.history.proofs.View.{dataRowOf, commitRowOf, view, number-at, snapshot-at, last-at, size-at, used-at}
-use Rattle.history.proofs.Searches.{says, says-and, says-eq, says-lt, says-le, says-yes, says-no, any-view, drop-view, tag-view, asNumber, commit-view}
+use Rattle.history.proofs.Searches.{says, says-and, says-eq, says-lt, says-le, says-yes, says-no, any-view, drop-view, tag-view}
+use Rattle.history.proofs.Searches.{asNumber, commit-view}
 use Rattle.history.proofs.Simulates.{observedOutcome, Simulates, simulates}
 
 -- ---- low

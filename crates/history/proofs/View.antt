@@ -16,11 +16,13 @@ use lib.Seq.{getD-set-same, getD-set-other, set-getD}
 use Rattle.spec.specs.Set.{clients, member, remove}
 use Rattle.spec.proofs.Sets.{member-above, member-remove}
 use Rattle.spec.specs.Rows.{Row, tagOf, cellOf, valueOf, commitNumber, commitTag}
-use Rattle.spec.specs.Image.{Clients, clientsOf, Image, setStage, setRequest, setCommit, setRequestWaits, setCommitWaits, cleared, unlisted, closed, stageOf, numberOf, snapshotOf, commitNumberOf}
+use Rattle.spec.specs.Image.{Clients, clientsOf, Image, setStage, setRequest, setCommit, setRequestWaits, setCommitWaits, cleared, unlisted}
+use Rattle.spec.specs.Image.{closed, stageOf, numberOf, snapshotOf, commitNumberOf}
 use Rattle.history.proofs.Wellformed.{Tidy, cleared-at, length-cleared}
 use Rattle.history.proofs.Tickets.{clear}
 use Rattle.history.proofs.Model as m
-use Rattle.history.proofs.Model.{DRow, CRow, Client, State, putₛ, same, clearC, clearBoth, atStageₛ, withRequest, withCommit, withRwait, withCwait}
+use Rattle.history.proofs.Model.{DRow, CRow, Client, State, putₛ, same, clearC, clearBoth, atStageₛ, withRequest, withCommit}
+use Rattle.history.proofs.Model.{withRwait, withCwait}
 
 unfoldable pub dataRowOf : Row → DRow
 dataRowOf r = record { tag = tagOf r; cell = cellOf r; value = valueOf r }

@@ -26,10 +26,13 @@ use Rattle.spec.specs.Share.{any, cellsOf, shares, conflict}
 use Rattle.spec.specs.Trim.{stays, trimmedRows, inUse, trimmedCommits}
 use Rattle.spec.specs.declared.Progress.{Progress}
 use Rattle.spec.specs.Answers.{Answer}
-use Rattle.spec.specs.Image.{Clients, Image, setStage, setRequest, setCommit, setRequestWaits, setCommitWaits, cleared, unlisted, opened, closed, zeros, empty, numberOf, snapshotOf, requestOf, stageOf, commitNumberOf, isOpen}
+use Rattle.spec.specs.Image.{Clients, Image, setStage, setRequest, setCommit, setRequestWaits, setCommitWaits, cleared, unlisted, opened}
+use Rattle.spec.specs.Image.{closed, zeros, empty, numberOf, snapshotOf, requestOf, stageOf, commitNumberOf, isOpen}
 use Rattle.spec.specs.Calls.{Outcome, free, begun, begin, read, replaced, added, stored, write, removed, abandon, low, trimmedTo, trim}
 use Rattle.spec.specs.Numbers.{top}
-use Rattle.spec.specs.Steps.{requestQueue, commitQueue, struck, others, goOn, finished, enter, takeRequest, listRequests, looked, lookRequests, checked, check, takeCommit, listCommits, lookCommits, addCommit, leaveCommits, leaveRequests, steps, noStep, advance}
+use Rattle.spec.specs.Steps.{requestQueue, commitQueue, struck, others, goOn, finished, enter, takeRequest, listRequests, looked}
+use Rattle.spec.specs.Steps.{lookRequests, checked, check, takeCommit, listCommits, lookCommits, addCommit, leaveCommits, leaveRequests}
+use Rattle.spec.specs.Steps.{steps, noStep, advance}
 use Rattle.spec.specs.Run.{Call, Begin, Read, Write, Advance, Abandon, Trim, Free, perform}
 
 -- ---- arrays

@@ -1,5 +1,5 @@
-// Printing for the step program: words, numbers and bytes. Each function appends to the text in out that ends at a place,
-// and answers where the text ends now. Definitions: crate spec, specs/Text.antt.
+// Printing for the step program: words, numbers and bytes. Each function appends to the text in out that ends at a
+// place, and answers where the text ends now. Definitions: crate spec, specs/Text.antt.
 ghost use mathlib.Core.Path.{_≡_};
 ghost use Prim.Native.Nat.{_+_, _≤_, _<_};
 ghost use lib.ListN.{length};

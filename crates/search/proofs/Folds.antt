@@ -1,4 +1,5 @@
--- Folds over the rows from row i on: what a row that counts adds, that a row that does not count may be left out, and that past the last row there is nothing.
+-- Folds over the rows from row i on: what a row that counts adds, that a row that does not count may be left out, and that past the last row there is
+-- nothing.
 -- What holds of the rows from the last on, and of those from i on where it holds of those from i + 1 on, holds of all (`to-start`).
 -- Assumes nothing.
 use Prim.Native.Nat.{ℕ, zero, suc, _+_, _-_, _≤_, _<_}

@@ -1,4 +1,5 @@
--- The marks of the cells below 1,024 that a transaction wrote. Where rows before i are marked, a cell is written by all rows just if the rows from i on write it or it is marked.
+-- The marks of the cells below 1,024 that a transaction wrote. Where rows before i are marked, a cell is written by all rows just if the rows from i
+-- on write it or it is marked.
 -- Assumes nothing.
 use Prim.Native.Nat.{ℕ, _+_, _<_}
 use mathlib.Core.Path.{_≡_, refl, sym, _∙_}

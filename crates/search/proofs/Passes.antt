@@ -1,4 +1,5 @@
--- Passes over rows. A pass (`Next`) goes from row `from` to the next hit r: whatever takes no notice of a row that is no hit is the same from `from` on as from r on.
+-- Passes over rows. A pass (`Next`) goes from row `from` to the next hit r: whatever takes no notice of a row that is no hit is the same from `from` on
+-- as from r on.
 -- Assumes nothing.
 use Prim.Native.Nat.{ℕ, zero, suc, _+_, _-_, _≤_, _<_}
 use mathlib.Core.Path.{_≡_, ap, _∙_}

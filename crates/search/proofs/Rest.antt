@@ -18,7 +18,8 @@ use Rattle.spec.specs.Numbers.{upTo}
 use Rattle.spec.specs.Look.{commitOf, isOwn, find, versionOf, newer, versionAt, newest, ownOr, lookFor}
 use Rattle.spec.specs.Share.{count}
 use Rattle.search.specs.Inner.{rowOrCount}
-use Rattle.search.proofs.Folds.{own-yes, own-other-tag, own-other-cell, tag-yes, tag-no, find-hit, find-miss, find-end, count-hit, count-miss, count-end, newest-step, newest-miss, newest-none}
+use Rattle.search.proofs.Folds.{own-yes, own-other-tag, own-other-cell, tag-yes, tag-no, find-hit, find-miss, find-end, count-hit}
+use Rattle.search.proofs.Folds.{count-miss, count-end, newest-step, newest-miss, newest-none}
 use Rattle.numbers.proofs.Grouping.{newer-assoc, newer-none}
 
 version-yes : (cell s : ℕ) (cs : List Row) (r : Row) → cellOf r ≡ cell → versionOf cell s cs r ≡ upTo s (commitOf (tagOf r) cs)

@@ -1,5 +1,5 @@
-// Committed rows gone through from the last to the first, marking the cells that are served (document 02, ticket 4): see
-// crate spec, specs/Marked.antt.
+// Committed rows gone through from the last to the first, marking the cells that are served (document 02, ticket 4):
+// see crate spec, specs/Marked.antt.
 ghost use mathlib.Core.Path.{_≡_};
 ghost use mathlib.Core.Bool.{true, false};
 ghost use Prim.Native.Nat.{_+_, _*_, _≤_, _<_};

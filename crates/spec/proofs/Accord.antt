@@ -11,7 +11,8 @@ use native.Mathlib.Omega.{arith}
 use borrow.Author.Tests.{le-ltb, le-leb, lt-leb, eq-eqb, ne-eqb}
 use Rattle.spec.specs.Choice.{if_then_else_}
 use Rattle.spec.specs.Set.{clients, bit, member, insert, remove, size, collect, strike}
-use Rattle.spec.specs.Rows.{Row, rowsIn, rowsFrom, layout, number, bytesOf, dataRow, tagOf, cellOf, commitRow, commitNumber, commitTag, filter, hasTag, cells}
+use Rattle.spec.specs.Rows.{Row, rowsIn, rowsFrom, layout, number, bytesOf, dataRow, tagOf, cellOf, commitRow, commitNumber}
+use Rattle.spec.specs.Rows.{commitTag, filter, hasTag, cells}
 use Rattle.spec.specs.Numbers.{lesser, smallest, above, top}
 use Rattle.spec.specs.Look.{commitOf, isOwn}
 use Rattle.spec.specs.Share.{any, wrote, cellsOf, shares, clash, conflict}
@@ -19,9 +20,11 @@ use Rattle.spec.specs.Trim.{between, later, overtaken, stays, trimmedRow
 use Rattle.spec.specs.declared.Progress.the-variants.{Stage, Waiting, Conflict, Done}
 use Rattle.spec.specs.declared.Store.{Store}
 use Rattle.spec.specs.Answers.{Answer, Answered, Refused, unfit, noClient, notOpen, wrongStage, cellLimit}
-use Rattle.spec.specs.Image.{Clients, Image, countersOf, clientsOf, imageOf, withClients, withRows, cleared, closed, stageOf, numberOf, isOpen, zeros, empty}
+use Rattle.spec.specs.Image.{Clients, Image, countersOf, clientsOf, imageOf, withClients, withRows, cleared, closed, stageOf}
+use Rattle.spec.specs.Image.{numberOf, isOpen, zeros, empty}
 use Rattle.spec.specs.Calls.{replies, refuse, free, begin, read, write, added, removed, abandon, readers, low, trimmedTo, trim}
-use Rattle.spec.specs.Steps.{queued, struck, others, goOn, finished, enter, listRequests, looked, lookRequests, listCommits, lookCommits, check, advance}
+use Rattle.spec.specs.Steps.{queued, struck, others, goOn, finished, enter, listRequests, looked, lookRequests, listCommits}
+use Rattle.spec.specs.Steps.{lookCommits, check, advance}
 use Rattle.spec.specs.Bytes.{countersIn, clientsIn, recordOf, decode, storeOf, After, afterOf, encode, known, fits, onBytes, accepts, setUp}
 
 -- ---- the cell limit (document 02, 9): d and c are the bytes of the buffers, w the first W

@@ -7,7 +7,8 @@ use mathlib.Core.Option.{Option, none, some}
 use native.Mathlib.Omega.{arith}
 use lib.ListN.{replicate}
 use Rattle.spec.specs.Set.{bit, member, insert, remove, size, collect, strike}
-use Rattle.spec.specs.Rows.{spliced, number, bytesOf, dataRow, tagOf, cellOf, valueOf, withValue, commitNumber, commitTag, rowAt, rowsIn, rowsFrom, layout, filter, hasTag}
+use Rattle.spec.specs.Rows.{spliced, number, bytesOf, dataRow, tagOf, cellOf, valueOf, withValue, commitNumber, commitTag, rowAt}
+use Rattle.spec.specs.Rows.{rowsIn, rowsFrom, layout, filter, hasTag}
 use Rattle.spec.specs.Numbers.{upTo}
 use Rattle.spec.specs.Look.{commitOf, isOwn, find, versionOf, newer, versionAt, newest, ownOr, lookFor}
 use Rattle.spec.specs.Share.{any, wrote, cellsOf}

@@ -3,7 +3,8 @@
 use mathlib.Core.Path.{_≡_, refl}
 use mathlib.Core.List.{[], _∷_, _++_, flatten}
 use lib.ListN.{replicate}
-use Rattle.spec.specs.Rows.{spliced, number, bytesOf, dataRow, tagOf, cellOf, valueOf, withValue, commitRow, commitNumber, commitTag, rowAt, rowsIn, layout}
+use Rattle.spec.specs.Rows.{spliced, number, bytesOf, dataRow, tagOf, cellOf, valueOf, withValue, commitRow, commitNumber, commitTag}
+use Rattle.spec.specs.Rows.{rowAt, rowsIn, layout}
 use Rattle.spec.proofs.AccordTable.{counting, sixteen, rubbish}
 
 -- ---- "Data buffer: 24-byte rows. Bytes 0 to 3 hold the tag (the writer's transaction number), 4 and 5 the cell, 6 and 7 zero, 8 to 23 the value."

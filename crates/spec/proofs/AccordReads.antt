@@ -5,14 +5,16 @@ use mathlib.Core.Path.{_≡_, refl}
 use mathlib.Core.List.{List, [], _∷_, _++_, map, flatten}
 use lib.ListN.{length, replicate}
 use Rattle.spec.specs.Set.{bit, member, insert, remove, size, collect, strike}
-use Rattle.spec.specs.Rows.{spliced, number, bytesOf, dataRow, tagOf, cellOf, valueOf, withValue, commitRow, commitNumber, commitTag, rowAt, rowsIn, rowsFrom, layout, filter, hasTag}
+use Rattle.spec.specs.Rows.{spliced, number, bytesOf, dataRow, tagOf, cellOf, valueOf, withValue, commitRow, commitNumber, commitTag}
+use Rattle.spec.specs.Rows.{rowAt, rowsIn, rowsFrom, layout, filter, hasTag}
 use Rattle.spec.specs.Numbers.{lesser, smallest, above, upTo}
 use Rattle.spec.specs.Look.{commitOf, isOwn, find, versionOf, newer, versionAt, newest, ownOr, lookFor}
 use Rattle.spec.specs.Share.{any, count, wrote, cellsOf, shares, clash, conflict}
 use Rattle.spec.specs.Trim.{between, later, overtaken, stays, trimmedRows, inUse, trimmedCommits}
 use Rattle.spec.specs.Image.{cleared, closed, empty}
 use Rattle.spec.specs.Calls.{free, begun, begin, read, replaced, added, write, removed, abandon, readers, low, trimmedTo, trim}
-use Rattle.spec.specs.Steps.{queued, struck, others, goOn, enter, takeRequest, listRequests, looked, lookRequests, check, takeCommit, listCommits, lookCommits, addCommit, leaveCommits, leaveRequests, finished, advance}
+use Rattle.spec.specs.Steps.{queued, struck, others, goOn, enter, takeRequest, listRequests, looked, lookRequests, check, takeCommit}
+use Rattle.spec.specs.Steps.{listCommits, lookCommits, addCommit, leaveCommits, leaveRequests, finished, advance}
 use Rattle.spec.specs.Bytes.{Memory, decode, storeOf, encode, known, fits, onBytes}
 use Rattle.spec.specs.Values.{valueRead, valueFrom}
 use Rattle.spec.specs.Answers.{Answered, Refused}
@@ -20,7 +22,8 @@ use Rattle.spec.specs.Run.{Read, Advance, Trim}
 use Rattle.spec.specs.declared.Reading.{Reading}
 use Rattle.spec.specs.declared.Reading.the-variants.{Value, Unwritten}
 use Rattle.spec.specs.declared.Progress.the-variants.{Stage}
-use Rattle.spec.proofs.AccordTable.{sixteen, row, entry, rubbish, three, none, counts, Boxes, boxes, idle, holds, finds, leaves, Example, example, computed}
+use Rattle.spec.proofs.AccordTable.{sixteen, row, entry, rubbish, three, none, counts, Boxes, boxes, idle, holds, finds, leaves}
+use Rattle.spec.proofs.AccordTable.{Example, example, computed}
 
 -- client 0 has transaction 9 open, with snapshot s; the last commit is 5
 abbrev reader : ℕ → Boxes

@@ -7,19 +7,22 @@ use lib.ListN.{replicate}
 use lib.Dec.{eqb}
 use Rattle.spec.specs.Choice.{if_then_else_}
 use Rattle.spec.specs.Set.{bit, member, insert, remove, size, collect, strike}
-use Rattle.spec.specs.Rows.{spliced, number, bytesOf, dataRow, tagOf, cellOf, valueOf, withValue, commitRow, commitNumber, commitTag, rowAt, rowsIn, rowsFrom, layout, filter, hasTag}
+use Rattle.spec.specs.Rows.{spliced, number, bytesOf, dataRow, tagOf, cellOf, valueOf, withValue, commitRow, commitNumber, commitTag}
+use Rattle.spec.specs.Rows.{rowAt, rowsIn, rowsFrom, layout, filter, hasTag}
 use Rattle.spec.specs.Numbers.{lesser, smallest, above, upTo}
 use Rattle.spec.specs.Look.{commitOf, isOwn, find, versionOf, newer, versionAt, newest, ownOr, lookFor}
 use Rattle.spec.specs.Share.{any, count, wrote, cellsOf, shares, clash, conflict}
 use Rattle.spec.specs.Trim.{between, later, overtaken, stays, trimmedRows, inUse, trimmedCommits}
 use Rattle.spec.specs.Image.{cleared, closed, empty}
 use Rattle.spec.specs.Calls.{free, begun, begin, read, replaced, added, write, removed, abandon, readers, low, trimmedTo, trim}
-use Rattle.spec.specs.Steps.{queued, struck, others, goOn, enter, takeRequest, listRequests, looked, lookRequests, check, takeCommit, listCommits, lookCommits, addCommit, leaveCommits, leaveRequests, finished, advance}
+use Rattle.spec.specs.Steps.{queued, struck, others, goOn, enter, takeRequest, listRequests, looked, lookRequests, check, takeCommit}
+use Rattle.spec.specs.Steps.{listCommits, lookCommits, addCommit, leaveCommits, leaveRequests, finished, advance}
 use Rattle.spec.specs.Bytes.{Memory, decode, storeOf, encode, known, fits, onBytes}
 use Rattle.spec.specs.Answers.{Answered, Refused, noForm, code, figureOf, beginOf, readOf, advanceOf}
 use Rattle.spec.specs.Run.{Call, Begin, Read, Write, Advance, Abandon, Trim, Free, refusals}
 use Rattle.spec.specs.declared.Refusal.{Refusal}
-use Rattle.spec.specs.declared.Refusal.the-variants.{BadSetUp, Unfit, NoClient, NoCell, AlreadyOpen, NotOpen, WrongStage, NumbersUsedUp, CellLimit, NoFreeRow, WrongLength}
+use Rattle.spec.specs.declared.Refusal.the-variants.{BadSetUp, Unfit, NoClient, NoCell, AlreadyOpen, NotOpen, WrongStage}
+use Rattle.spec.specs.declared.Refusal.the-variants.{NumbersUsedUp, CellLimit, NoFreeRow, WrongLength}
 use Rattle.spec.specs.declared.Begun.{Begun}
 use Rattle.spec.specs.declared.Reading.{Reading}
 use Rattle.spec.specs.declared.Reading.the-variants.{Value, Unwritten}
@@ -29,7 +32,8 @@ use Rattle.spec.specs.declared.FigureAnswer.the-variants as figure
 use Rattle.spec.specs.declared.BeginAnswer.the-variants as begun
 use Rattle.spec.specs.declared.ReadAnswer.the-variants as reading
 use Rattle.spec.specs.declared.AdvanceAnswer.the-variants as advanced
-use Rattle.spec.proofs.AccordTable.{counting, sixteen, row, entry, rubbish, three, none, Counts, counts, Boxes, boxes, idle, holds, finds, leaves, Example, example, refusing, computed}
+use Rattle.spec.proofs.AccordTable.{counting, sixteen, row, entry, rubbish, three, none, Counts, counts, Boxes, boxes, idle, holds}
+use Rattle.spec.proofs.AccordTable.{finds, leaves, Example, example, refusing, computed}
 
 -- ---- the numbers: "Refused 1 if the data length isn't ..", "2 unfit store, 3 client above 31, 5 already open, 8 if W 4,294,967,295 has been issued", "4
 -- cell above 1,023, 6 nothing open, 7 stage not 0", "12 value not 16 bytes", "9 cell limit reached, 10 no free row"; 11 is unused (document 02, 2)

@@ -6,18 +6,21 @@ use mathlib.Core.Path.{_≡_, refl}
 use mathlib.Core.List.{List, [], _∷_, _++_, map, flatten}
 use lib.ListN.{replicate}
 use Rattle.spec.specs.Set.{bit, member, insert, remove, size, collect, strike}
-use Rattle.spec.specs.Rows.{spliced, number, bytesOf, dataRow, tagOf, cellOf, valueOf, withValue, commitRow, commitNumber, commitTag, rowAt, rowsIn, rowsFrom, layout, filter, hasTag}
+use Rattle.spec.specs.Rows.{spliced, number, bytesOf, dataRow, tagOf, cellOf, valueOf, withValue, commitRow, commitNumber, commitTag}
+use Rattle.spec.specs.Rows.{rowAt, rowsIn, rowsFrom, layout, filter, hasTag}
 use Rattle.spec.specs.Numbers.{lesser, smallest, above, upTo}
 use Rattle.spec.specs.Look.{commitOf, isOwn, find, versionOf, newer, versionAt, newest, ownOr, lookFor}
 use Rattle.spec.specs.Share.{any, count, wrote, cellsOf, shares, clash, conflict}
 use Rattle.spec.specs.Trim.{between, later, overtaken, stays, trimmedRows, inUse, trimmedCommits}
 use Rattle.spec.specs.Image.{cleared, closed, empty}
 use Rattle.spec.specs.Calls.{free, begun, begin, read, replaced, added, write, removed, abandon, readers, low, trimmedTo, trim}
-use Rattle.spec.specs.Steps.{queued, struck, others, goOn, enter, takeRequest, listRequests, looked, lookRequests, check, takeCommit, listCommits, lookCommits, addCommit, leaveCommits, leaveRequests, finished, advance}
+use Rattle.spec.specs.Steps.{queued, struck, others, goOn, enter, takeRequest, listRequests, looked, lookRequests, check, takeCommit}
+use Rattle.spec.specs.Steps.{listCommits, lookCommits, addCommit, leaveCommits, leaveRequests, finished, advance}
 use Rattle.spec.specs.Bytes.{decode, storeOf, encode, known, fits, onBytes}
 use Rattle.spec.specs.Run.{Write, Advance, Abandon, Trim}
 use Rattle.spec.specs.declared.Progress.the-variants.{Stage, Conflict}
-use Rattle.spec.proofs.AccordTable.{sixteen, row, entry, rubbish, three, none, Counts, counts, Boxes, boxes, idle, holds, finds, leaves, Example, computed}
+use Rattle.spec.proofs.AccordTable.{sixteen, row, entry, rubbish, three, none, Counts, counts, Boxes, boxes, idle, holds, finds}
+use Rattle.spec.proofs.AccordTable.{leaves, Example, computed}
 
 -- ---- calls in bytes: 5 rows, limit 8. Transaction 1 has committed cell 7 under 1; client 0 has transaction 2 open, client 1 transaction 3, both with
 -- S 0

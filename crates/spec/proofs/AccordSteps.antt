@@ -6,19 +6,22 @@ use mathlib.Core.Path.{_≡_, refl}
 use mathlib.Core.List.{List, [], _∷_, _++_, map, flatten}
 use lib.ListN.{replicate}
 use Rattle.spec.specs.Set.{bit, member, insert, remove, size, collect, strike}
-use Rattle.spec.specs.Rows.{spliced, number, bytesOf, dataRow, tagOf, cellOf, valueOf, withValue, commitRow, commitNumber, commitTag, rowAt, rowsIn, rowsFrom, layout, filter, hasTag}
+use Rattle.spec.specs.Rows.{spliced, number, bytesOf, dataRow, tagOf, cellOf, valueOf, withValue, commitRow, commitNumber, commitTag}
+use Rattle.spec.specs.Rows.{rowAt, rowsIn, rowsFrom, layout, filter, hasTag}
 use Rattle.spec.specs.Numbers.{lesser, smallest, above, upTo}
 use Rattle.spec.specs.Look.{commitOf, isOwn, find, versionOf, newer, versionAt, newest, ownOr, lookFor}
 use Rattle.spec.specs.Share.{any, count, wrote, cellsOf, shares, clash, conflict}
 use Rattle.spec.specs.Trim.{between, later, overtaken, stays, trimmedRows, inUse, trimmedCommits}
 use Rattle.spec.specs.Image.{cleared, closed, empty}
 use Rattle.spec.specs.Calls.{free, begun, begin, read, replaced, added, write, removed, abandon, readers, low, trimmedTo, trim}
-use Rattle.spec.specs.Steps.{queued, struck, others, goOn, enter, takeRequest, listRequests, looked, lookRequests, check, takeCommit, listCommits, lookCommits, addCommit, leaveCommits, leaveRequests, finished, advance}
+use Rattle.spec.specs.Steps.{queued, struck, others, goOn, enter, takeRequest, listRequests, looked, lookRequests, check, takeCommit}
+use Rattle.spec.specs.Steps.{listCommits, lookCommits, addCommit, leaveCommits, leaveRequests, finished, advance}
 use Rattle.spec.specs.Bytes.{Memory, decode, storeOf, encode, known, fits, onBytes}
 use Rattle.spec.specs.Run.{Begin, Advance, Abandon, Trim}
 use Rattle.spec.specs.declared.Progress.{Progress}
 use Rattle.spec.specs.declared.Progress.the-variants.{Stage, Waiting, Conflict, Done}
-use Rattle.spec.proofs.AccordTable.{row, entry, rubbish, three, none, Counts, counts, Boxes, boxes, idle, holds, finds, leaves, Example, example, computed}
+use Rattle.spec.proofs.AccordTable.{row, entry, rubbish, three, none, Counts, counts, Boxes, boxes, idle, holds, finds, leaves}
+use Rattle.spec.proofs.AccordTable.{Example, example, computed}
 
 -- ---- the table of steps. Clients 0, 1 and 2 have transactions 1, 2 and 3 open: the first two wrote cell 7, the third cell 8. R is 5, C is 4, and the
 -- last commit is 3

@@ -22,7 +22,8 @@ use Rattle.spec.specs.Text.{
 use Rattle.spec.specs.Session.{lines}
 use Rattle.spec.proofs.AccordTable.{counting}
 
--- "forms from standard input, one a line (the last needs no newline)": no input, a newline alone, two lines with and without the last newline, and an empty one between two
+-- "forms from standard input, one a line (the last needs no newline)": no input, a newline alone, two lines with and without the last newline, and an
+-- empty one between two
 pub one-a-line :
     map lines
     ([]

@@ -7,7 +7,8 @@ use native.Mathlib.Nat.{add-assoc, add-zero, not-suc-le-zero}
 use native.Mathlib.Numerals.{add-one, towards-suc}
 use native.Mathlib.Omega.{arith}
 use lib.ListN.{length, take, drop, getD, set, length-append, length-drop, take-append-drop, replicate}
-use lib.Seq.{drop-cons, sets-eq, paste, paste-suc, take-length, take-at, drop-at, length-take-le, drop-drop, drop-append-le, take-take, take-add, drop-length}
+use lib.Seq.{drop-cons, sets-eq, paste, paste-suc, take-length, take-at, drop-at, length-take-le, drop-drop, drop-append-le, take-take}
+use lib.Seq.{take-add, drop-length}
 use borrow.Rule.Slice.PartMut.{putMid}
 use Rattle.spec.specs.Rows.{part, number, bytesOf, spliced, dataRow, commitRow}
 

@@ -12,8 +12,10 @@ use native.Mathlib.Omega.{arith}
 use lib.ListN.{length, take, drop, getD, set, length-append, length-drop, length-set, take-append-drop}
 use lib.Seq.{take-at, drop-at, length-take-le, drop-drop, take-all, ext-getD, getD-set-same, getD-set-other}
 use Rattle.spec.specs.Choice.{if_then_else_}
-use Rattle.spec.specs.Rows.{Row, part, number, bytesOf, spliced, dataRow, tagOf, cellOf, valueOf, commitRow, commitNumber, commitTag, rowAt, rowsIn, rowsFrom, filter}
-use Rattle.spec.proofs.Bytes.{part-take, part-part, take-before, drop-later, drop-spliced, length-spliced, lent-spliced, number-bytes-four, number-bytes-two}
+use Rattle.spec.specs.Rows.{Row, part, number, bytesOf, spliced, dataRow, tagOf, cellOf, valueOf, commitRow, commitNumber, commitTag}
+use Rattle.spec.specs.Rows.{rowAt, rowsIn, rowsFrom, filter}
+use Rattle.spec.proofs.Bytes.{part-take, part-part, take-before, drop-later, drop-spliced, length-spliced, lent-spliced}
+use Rattle.spec.proofs.Bytes.{number-bytes-four, number-bytes-two}
 
 -- ---- rows one after the other
 

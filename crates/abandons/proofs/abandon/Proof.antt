@@ -88,7 +88,8 @@ sub-t17 c =
       arith,
       f .dataRows,
       removed-within _ _
-          (c .before .before .before .before .before .before .before .before .before .before .before .before .before .before .args .commits .now) _ _ _ (c .before .before .before .remove .ensures) (f .dataRows),
+          (c .before .before .before .before .before .before .before .before .before .before .before .before .before
+          .before .args .commits .now) _ _ _ (c .before .before .before .remove .ensures) (f .dataRows),
     )
 
 same-length : tie.Need-same-length

@@ -11,7 +11,8 @@ use Rattle.lines.proofs.answer_line.Tie as tie
 returns : tie.Need-returns
 unfolding response
 returns c =
-    let a = c .before .before .before .before .before .before .before .before .before .before .before .before .before .before .before .before .before .before .args in
+    let a = c .before .before .before .before .before .before .before .before .before .before .before .before .before .before .before
+    .before .before .before .args in
     let f = c .before .before .before .before .before .before .before .before .before .before .before .before .before .form-of in
     rw (by-form (a .line .now) (memoryOf (a .store) (a .rows .now) (a .commits .now)) (f .result) _ (f .ensures)
     (c .before .before .before .before .before .before .before .before .before .before .before .form .given .1))
@@ -45,7 +46,8 @@ returns-4 c =
 returns-5 : tie.Need-returns-5
 unfolding response
 returns-5 c =
-    let a = c .before .before .before .before .before .before .before .before .before .before .before .before .before .before .before .before .before .before .args in
+    let a = c .before .before .before .before .before .before .before .before .before .before .before .before .before .before .before
+    .before .before .before .args in
     let f = c .before .before .before .before .before .before .before .before .before .before .before .before .before .form-of in
     rw (by-form (a .line .now) (memoryOf (a .store) (a .rows .now) (a .commits .now)) (f .result) _ (f .ensures)
     (c .before .before .before .before .before .before .before .before .before .before .before .form5 .given .1))
@@ -63,7 +65,8 @@ returns-6 c =
 returns-7 : tie.Need-returns-7
 unfolding response
 returns-7 c =
-    let a = c .before .before .before .before .before .before .before .before .before .before .before .before .before .before .before .before .before .args in
+    let a = c .before .before .before .before .before .before .before .before .before .before .before .before .before .before .before
+    .before .before .args in
     let f = c .before .before .before .before .before .before .before .before .before .before .before .before .form-of in
     rw (by-form (a .line .now) (memoryOf (a .store) (a .rows .now) (a .commits .now)) (f .result) _ (f .ensures)
     (c .before .before .before .before .before .before .before .before .before .before .enum-told .given .1))

@@ -18,7 +18,8 @@ returns c =
 
 returns-2 : tie.Need-returns-2
 returns-2 c =
-    let a = c .before .before .before .before .before .before .before .before .before .before .before .before .before .before .before .before .before .before .before .args in
+    let a = c .before .before .before .before .before .before .before .before .before .before .before .before .before .before .before
+    .before .before .before .before .args in
     let d = c .before .before .before .before .before .before .before .before .before .before .before .before .before .before .front in
     let e = c .before .before .before .before .before .before .before .before .before .before .before .before .before .front2 in
     let t = c .before .before .before .before .before .before .before .before .before .before .set-up in
@@ -26,7 +27,8 @@ returns-2 c =
     rw (c .kept .ensures)
     (set-up-spoken (a .store) (a .rows .now) (a .commits .now) _ _ _ _ (SetUp (a .count) (a .first) (a .limit)) (a .count) (a .first)
     (a .limit) (d .result) (e .result) (t .result .store) _ _ _ _ (t .result .answer)
-    (c .before .before .before .before .before .before .before .before .before .before .before .before .before .before .before .if1 .left) (d .ensures .1) (e .ensures .1) (t .ensures) refl refl (l .ensures .0) (l .ensures .1))
+    (c .before .before .before .before .before .before .before .before .before .before .before .before .before .before
+    .before .if1 .left) (d .ensures .1) (e .ensures .1) (t .ensures) refl refl (l .ensures .0) (l .ensures .1))
 
 pub set-up-said-spec : {M : Type 1} → statement M
 set-up-said-spec = tie.close (tie.spec (λ c κs. search needs) (λ c. search needs) returns (λ c. search needs) (λ c κs. search needs)

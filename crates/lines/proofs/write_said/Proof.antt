@@ -13,7 +13,8 @@ use Rattle.lines.proofs.write_said.Tie as tie
 
 returns : tie.Need-returns
 returns c =
-    let a = c .before .before .before .before .before .before .before .before .before .before .before .before .before .before .before .before .before .before .before .before .args in
+    let a = c .before .before .before .before .before .before .before .before .before .before .before .before .before .before .before
+    .before .before .before .before .before .args in
     let d = c .before .before .before .before .before .before .before .before .before .before .before .before .before .before .front in
     let e = c .before .before .before .before .before .before .before .before .before .before .before .before .front2 in
     let t = c .before .before .before .before .before .before .before .write in

@@ -14,7 +14,8 @@ from-newest-requires c κs =
 
 returns : tie.Need-returns
 returns c =
-    let a = c .before .before .before .before .before .before .before .before .before .before .before .before .before .before .before .before .before .before .before .args in
+    let a = c .before .before .before .before .before .before .before .before .before .before .before .before .before .before .before
+    .before .before .before .before .args in
     let newest = c .before .before .before .before .before .before .before .before .before .before .before .from-newest in
     let orderly = c .before .before .before .before .before .before .before .before .before .before .if1 .taken in
     let first = c .before .before .before .before .before .before .before .close-up in

@@ -7,7 +7,8 @@ use native.Mathlib.Omega.{arith}
 use lib.ListN.{getD}
 use Rattle.orderly.specs.Inner.{pairPlace, openPlace, PairWalk}
 use Rattle.orderly.proofs.Order.{differ}
-use Rattle.orderly.proofs.Open.{Tested, OpenRow, tested-none, tested-all, tested-past, tested-more, tested-large, tested-twice, open-at, open-walk, open-alone}
+use Rattle.orderly.proofs.Open.{Tested, OpenRow, tested-none, tested-all, tested-past, tested-more, tested-large, tested-twice}
+use Rattle.orderly.proofs.Open.{open-at, open-walk, open-alone}
 use Rattle.orderly.proofs.open_plain.Statement.{statement}
 use Rattle.orderly.proofs.open_plain.Tie as tie
 

@@ -114,7 +114,9 @@ enum-told c = search needs
 returns-6 : tie.Need-returns-6
 returns-6 c =
     refuses _ _ _ _ _
-    (sym (c .before .before .before .before .before .before .before .before .before .before .before .before .before .before .fit .ensures) ∙ not-false _ (c .before .before .before .before .before .before .before .before .before .before .before .before .before .if1 .left))
+    (sym (c .before .before .before .before .before .before .before .before .before .before .before .before .before
+    .before .fit .ensures) ∙ not-false _ (c .before .before .before .before .before .before .before .before .before .before
+    .before .before .before .if1 .left))
     (read-found _ _ _ _ _ (omega arith) (omega arith) (c .before .before .before .before .before .before .before .before .before .if4 .left)
     (omega arith) _ _ (c .before .seen .given .1) (c .before .before .before .look-for .ensures))
 

@@ -74,7 +74,8 @@ add-from : tie.Need-add-from Inv-loop μ-loop
 add-from c = omega (
   arith,
   c .before .before .before .before .before .before .before .before .before .before .before .before .if3 .left,
-  c .before .before .before .before .before .before .before .before .before .before .before .before .before .before .before .before .before .before .before .before .before .before .good .1 .0 .0,
+  c .before .before .before .before .before .before .before .before .before .before .before .before .before .before .before .before
+      .before .before .before .before .before .before .good .1 .0 .0,
 )
 
 onward : {start from used at e : ℕ} → (start < from) ⊎ ((from ≡ start) × (used ≡ at)) → from ≤ e → start < e + 1
@@ -82,9 +83,11 @@ onward p h = ⊎-elim (λ m. omega arith) (λ m. omega (arith, m .0)) p
 
 loop-again : tie.Need-loop-again Inv-loop μ-loop
 loop-again c =
-    let l = c .before .before .before .before .before .before .before .before .before .before .before .before .before .before .before .before .before .loop in
+    let l = c .before .before .before .before .before .before .before .before .before .before .before .before .before .before .before
+    .before .before .loop in
     let n = c .before .before .before .before .before .before .before .before .before .before .before .before .before .newline in
-    let a = c .before .before .before .before .before .before .before .before .before .before .before .before .before .before .before .before .before .before .before .before .before .before .args in
+    let a = c .before .before .before .before .before .before .before .before .before .before .before .before .before .before .before
+    .before .before .before .before .before .before .before .args in
     let t = c .before .before .before .before .before .before .before .answer-line in
     let h : n .result < length (a .buf .now) = omega
     (arith, c .before .before .before .before .before .before .before .before .before .before .before .before .if3 .left) in
@@ -101,8 +104,10 @@ loop-again c =
       t .kept .1 .1 .1 .1 .0 ∙ l .inv .2,
       t .kept .1 .1 .0 ∙ l .inv .3,
       t .kept .1 .1 .1 .0 ∙ l .inv .4,
-      text-more (a .buf .now) (l .from) (n .result) (n .ensures .0) (n .ensures .1 .0) h w w′ (l .out) (t .last .1 .1 .1 .1 .0) (l .used) (t .result .used) (t .ensures) _ (l .inv .5),
-      state-more (a .buf .now) (l .from) (n .result) (n .ensures .0) (n .ensures .1 .0) h w w′ (l .out) (t .last .1 .1 .1 .1 .0) (l .used) (t .result .used) (t .ensures) _ (l .inv .6),
+      text-more (a .buf .now) (l .from) (n .result) (n .ensures .0) (n .ensures .1 .0) h w w′ (l .out) (t .last .1 .1 .1 .1 .0)
+          (l .used) (t .result .used) (t .ensures) _ (l .inv .5),
+      state-more (a .buf .now) (l .from) (n .result) (n .ensures .0) (n .ensures .1 .0) h w w′ (l .out) (t .last .1 .1 .1 .1 .0)
+          (l .used) (t .result .used) (t .ensures) _ (l .inv .6),
       sym (rest-at (a .buf .now) (l .from) (n .result) (n .ensures .0) (n .ensures .1 .0) h) ∙ l .inv .7,
       inl (onward (l .inv .8) (n .ensures .1 .0)),
     )

@@ -34,7 +34,8 @@ returns-2 : tie.Need-returns-2 Inv-loop μ-loop
 returns-2 c =
     let l = c .before .before .before .before .before .before .before .before .before .before .before .before .before .before .before .before .loop in
     let k = c .before .before .before .before .before .before .before .before .before .before .before .chunk in
-    let a = c .before .before .before .before .before .before .before .before .before .before .before .before .before .before .before .before .before .before .before .before .before .args in
+    let a = c .before .before .before .before .before .before .before .before .before .before .before .before .before .before .before
+    .before .before .before .before .before .before .args in
     let w₀ = memoryOf (a .store) (a .rows .now) (a .commits .now) in
     let w = memoryOf (l .s) (l .rows) (l .commits) in
     let out′ = k .last .1 .1 .1 .1 .1 .0 in
@@ -44,7 +45,8 @@ returns-2 c =
       arith,
       same,
       k .kept .1 .1 .1 .1 .1 .0,
-      c .before .before .before .before .before .before .before .before .before .before .before .before .before .before .before .before .before .before .before .before .before .pre,
+      c .before .before .before .before .before .before .before .before .before .before .before .before .before .before .before
+          .before .before .before .before .before .before .pre,
     ) in (
       search needs,
       λ e. stuck (a .buf .now) w₀ w w′ (l .from) (k .result .from) (l .out) out′

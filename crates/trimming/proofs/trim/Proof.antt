@@ -21,7 +21,8 @@ commit-flags-requires c κs =
 
 returns-2 : tie.Need-returns-2
 returns-2 c =
-    let start = c .before .before .before .before .before .before .before .before .before .before .before .before .before .before .before .before .before .before .before in
+    let start = c .before .before .before .before .before .before .before .before .before .before .before .before .before .before
+    .before .before .before .before .before in
     let a = start .args in
     let stay = c .before .before .before .before .before .before .before .before .before .before .before .before .before .stay-flags in
     let first = c .before .before .before .before .before .before .before .before .before .before .close-up in

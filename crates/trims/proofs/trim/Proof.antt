@@ -40,12 +40,16 @@ cast-kept c = let f = fit-of _ _ _
 cast-rest : tie.Need-cast-rest
 cast-rest c = let f = fit-of _ _ _
     (sym (c .before .before .before .before .before .before .before .before .before .before .before .before .before .fit .ensures) ∙
-    not-false _ (c .before .before .before .before .before .before .before .before .before .before .before .before .if1 .left)) in let t = trimmed-fewer _ _ _ _ _ _ _ _ _ (c .before .before .before .before .before .before .trim .ensures) in omega arith
+    not-false _ (c .before .before .before .before .before .before .before .before .before .before .before
+    .before .if1 .left)) in let t = trimmed-fewer _ _ _ _ _ _ _ _ _ (c .before .before .before .before .before
+    .before .trim .ensures) in omega arith
 
 sub-t20 : tie.Need-sub-t20
 sub-t20 c =
     let f = fit-of _ _ _
-    (sym (c .before .before .before .before .before .before .before .before .before .before .before .before .before .before .fit .ensures) ∙ not-false _ (c .before .before .before .before .before .before .before .before .before .before .before .before .before .if1 .left)) in
+    (sym (c .before .before .before .before .before .before .before .before .before .before .before .before .before
+    .before .fit .ensures) ∙ not-false _ (c .before .before .before .before .before .before .before .before .before .before
+    .before .before .before .if1 .left)) in
     let t = trimmed-fewer _ _ _ _ _ _ _ _ _ (c .before .before .before .before .before .before .before .trim .ensures) in
     omega arith
 
