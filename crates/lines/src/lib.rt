@@ -1,4 +1,6 @@
 // The answer to a line, on the record and the program's two buffers. Definitions: crate spec, specs/Session.antt.
+use spec::COMMIT_ROW;
+use spec::DATA_ROW;
 use spec::FigureAnswer;
 use spec::Form;
 use spec::ReadAnswer;
@@ -67,8 +69,8 @@ fn set_up_said(
         let used = reply::refused_line(out, at, form, 1);
         return Answered { store, used };
     }
-    let d = front(24 * count as usize, rows.len());
-    let c = front(8 * count as usize, commits.len());
+    let d = front(DATA_ROW * count as usize, rows.len());
+    let c = front(COMMIT_ROW * count as usize, commits.len());
     let turn = store::set_up(&mut rows[..d], &mut commits[..c], first, limit);
     let answer = turn.answer;
     let next = turn.store;
@@ -93,8 +95,8 @@ fn begin_said(
         (memoryOf (r .store) (now (rows .entry)) (now (commits .entry)))
         (now (out .entry)) at (now (out .exit)) (r .used) ⌝ }
 {
-    let d = front(24 * store.rows as usize, rows.len());
-    let c = front(8 * store.rows as usize, commits.len());
+    let d = front(DATA_ROW * store.rows as usize, rows.len());
+    let c = front(COMMIT_ROW * store.rows as usize, commits.len());
     let turn = store::begin(store, &rows[..d], &commits[..c], client);
     let answer = turn.answer;
     let next = turn.store;
@@ -130,8 +132,8 @@ fn read_said(
         (memoryOf (r .store) (now (rows .entry)) (now (commits .entry)))
         (now (out .entry)) at (now (out .exit)) (r .used) ⌝ }
 {
-    let d = front(24 * store.rows as usize, rows.len());
-    let c = front(8 * store.rows as usize, commits.len());
+    let d = front(DATA_ROW * store.rows as usize, rows.len());
+    let c = front(COMMIT_ROW * store.rows as usize, commits.len());
     let turn = store::read(store, &rows[..d], &commits[..c], client, cell);
     let answer = turn.answer;
     let next = turn.store;
@@ -159,8 +161,8 @@ fn write_said(
         (memoryOf (r .store) (now (rows .exit)) (now (commits .entry)))
         (now (out .entry)) at (now (out .exit)) (r .used) ⌝ }
 {
-    let d = front(24 * store.rows as usize, rows.len());
-    let c = front(8 * store.rows as usize, commits.len());
+    let d = front(DATA_ROW * store.rows as usize, rows.len());
+    let c = front(COMMIT_ROW * store.rows as usize, commits.len());
     let value = text::value_in(line, place);
     let turn = store::write(store, &mut rows[..d], &commits[..c], client, cell, &value);
     let answer = turn.answer;
@@ -192,8 +194,8 @@ fn advance_said(
         (memoryOf (r .store) (now (rows .exit)) (now (commits .exit)))
         (now (out .entry)) at (now (out .exit)) (r .used) ⌝ }
 {
-    let d = front(24 * store.rows as usize, rows.len());
-    let c = front(8 * store.rows as usize, commits.len());
+    let d = front(DATA_ROW * store.rows as usize, rows.len());
+    let c = front(COMMIT_ROW * store.rows as usize, commits.len());
     let turn = store::advance(store, &mut rows[..d], &mut commits[..c], client);
     let answer = turn.answer;
     let next = turn.store;
@@ -215,8 +217,8 @@ fn abandon_said(
         (memoryOf (r .store) (now (rows .exit)) (now (commits .entry)))
         (now (out .entry)) at (now (out .exit)) (r .used) ⌝ }
 {
-    let d = front(24 * store.rows as usize, rows.len());
-    let c = front(8 * store.rows as usize, commits.len());
+    let d = front(DATA_ROW * store.rows as usize, rows.len());
+    let c = front(COMMIT_ROW * store.rows as usize, commits.len());
     let turn = store::abandon(store, &mut rows[..d], &commits[..c], client);
     let answer = turn.answer;
     let next = turn.store;
@@ -237,8 +239,8 @@ fn trim_said(
         (memoryOf (r .store) (now (rows .exit)) (now (commits .exit)))
         (now (out .entry)) at (now (out .exit)) (r .used) ⌝ }
 {
-    let d = front(24 * store.rows as usize, rows.len());
-    let c = front(8 * store.rows as usize, commits.len());
+    let d = front(DATA_ROW * store.rows as usize, rows.len());
+    let c = front(COMMIT_ROW * store.rows as usize, commits.len());
     let turn = store::trim(store, &mut rows[..d], &mut commits[..c]);
     let answer = turn.answer;
     let next = turn.store;
@@ -253,8 +255,8 @@ fn free_said(store: Store, rows: &[u8], commits: &[u8], out: &mut [u8], at: usiz
         (memoryOf (r .store) (now (rows .entry)) (now (commits .entry)))
         (now (out .entry)) at (now (out .exit)) (r .used) ⌝ }
 {
-    let d = front(24 * store.rows as usize, rows.len());
-    let c = front(8 * store.rows as usize, commits.len());
+    let d = front(DATA_ROW * store.rows as usize, rows.len());
+    let c = front(COMMIT_ROW * store.rows as usize, commits.len());
     let turn = store::free(store, &rows[..d], &commits[..c]);
     let answer = turn.answer;
     let next = turn.store;
