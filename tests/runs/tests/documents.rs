@@ -4,7 +4,8 @@ use std::collections::{BTreeMap, BTreeSet};
 use std::fs;
 use std::path::{Path, PathBuf};
 
-const PAGES: [&str; 7] = ["README.md", "docs/ARCHITECTURE.md", "docs/DECISIONS.md", "docs/PROOF.md", "docs/PROVING.md", "docs/TRACE.md", "docs/WAITING.md"];
+const PAGES: [&str; 7] =
+    ["README.md", "docs/ARCHITECTURE.md", "docs/DECISIONS.md", "docs/PROOF.md", "docs/PROVING.md", "docs/TRACE.md", "docs/WAITING.md"];
 
 fn at(path: &str) -> PathBuf {
     Path::new(env!("CARGO_MANIFEST_DIR")).join("../..").join(path)
@@ -14,11 +15,15 @@ fn text(path: &str) -> String {
     fs::read_to_string(at(path)).unwrap_or_else(|why| panic!("{path}: {why}"))
 }
 
-/// The crates, as crates.txt lists them.
-fn crates() -> BTreeSet<String> {
+/// The crates as crates.txt lists them, each with those that it uses.
+fn uses() -> BTreeMap<String, Vec<String>> {
     let listed = text("crates.txt");
-    let lines = listed.lines().filter(|line| !line.starts_with('#'));
-    lines.map(|line| line.split(':').next().unwrap().to_string()).collect()
+    let lines = listed.lines().filter(|line| !line.starts_with('#')).filter_map(|line| line.split_once(':'));
+    lines.map(|(name, used)| (name.to_string(), used.split_whitespace().map(str::to_string).collect())).collect()
+}
+
+fn crates() -> BTreeSet<String> {
+    uses().into_keys().collect()
 }
 
 /// What stands between backquotes, line by line.
@@ -169,12 +174,18 @@ fn a_public_name_stands_once() {
     assert!(places.is_empty(), "{places:#?}");
 }
 
-/// The picture in docs/ARCHITECTURE.md shows every crate, and nothing else: a crate is the first word of its line.
+/// The picture in docs/ARCHITECTURE.md shows every crate, and nothing else, above those that it uses: a crate is the first word of its line.
 #[test]
 fn the_picture_shows_the_crates() {
     let page = text("docs/ARCHITECTURE.md");
     let picture = page.lines().filter_map(|line| line.strip_prefix("    "));
     let firsts = picture.filter(|line| !line.starts_with("         ") && !line.starts_with("  |          "));
-    let shown = firsts.filter_map(|line| line.split_whitespace().find(|word| word.starts_with(|c: char| c.is_alphanumeric())));
-    assert_eq!(shown.map(str::to_string).collect::<BTreeSet<_>>(), crates());
+    let shown: Vec<_> = firsts.filter_map(|line| line.split_whitespace().find(|word| word.starts_with(|c: char| c.is_alphanumeric()))).collect();
+    assert_eq!(shown.iter().map(|name| name.to_string()).collect::<BTreeSet<_>>(), crates());
+    let place = |name: &str| shown.iter().position(|other| *other == name);
+    for (name, used) in uses() {
+        for other in used.iter().filter(|other| crates().contains(*other)) {
+            assert!(place(&name) < place(other), "{name} uses {other}, which does not stand below it");
+        }
+    }
 }
