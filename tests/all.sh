@@ -3,7 +3,7 @@
 # that this pass has built. The last line is the sum of both, 'N passed, M failed'.
 set -u
 cd "$(dirname "$0")/.."
-# Crates are proved level by level, and those of a level wait for its slowest: with two a processor none stands idle meanwhile.
+# Crates are proved level by level, and those of a level wait for its slowest: two checks a processor leave less of it idle.
 export RT_JOBS="${RT_JOBS:-$((2 * $(nproc)))}"
 said=$(mktemp)
 trap 'rm -f "$said"' EXIT
