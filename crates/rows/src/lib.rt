@@ -14,12 +14,18 @@ fn wide(x: u8) -> u32
     x as u32
 }
 
+fn short(x: u8) -> u16
+    ensures { λ r. ⌜ (r ≡ x) × (r < 256) ⌝ }
+{
+    x as u16
+}
+
 // The little-endian number in the two bytes from index at.
-fn u16_at(s: &[u8], at: usize) -> u32
+fn u16_at(s: &[u8], at: usize) -> u16
     requires { ⌜ at + 2 ≤ length (now s) ⌝ }
     ensures { λ r. ⌜ r ≡ number (part at 2 (now (s .entry))) ⌝ }
 {
-    wide(s[at]) + 256 * wide(s[at + 1])
+    short(s[at]) + 256 * short(s[at + 1])
 }
 
 // The little-endian number in the four bytes from index at.
@@ -73,11 +79,19 @@ pub fn tag_at(rows: &[u8], i: usize) -> u32
     u32_at(rows, DATA_ROW * i)
 }
 
-pub fn cell_at(rows: &[u8], i: usize) -> u32
+// In its own width, so that it is compared as it stands in the buffer.
+pub fn short_cell_at(rows: &[u8], i: usize) -> u16
     requires { ⌜ dataWidth * i + 24 ≤ length (now rows) ⌝ }
     ensures { λ r. ⌜ r ≡ cellOf (rowAt dataWidth i (now (rows .entry))) ⌝ }
 {
     u16_at(rows, DATA_ROW * i + 4)
+}
+
+pub fn cell_at(rows: &[u8], i: usize) -> u32
+    requires { ⌜ dataWidth * i + 24 ≤ length (now rows) ⌝ }
+    ensures { λ r. ⌜ r ≡ cellOf (rowAt dataWidth i (now (rows .entry))) ⌝ }
+{
+    short_cell_at(rows, i) as u32
 }
 
 // The value, as it stands in the buffer.
