@@ -2,17 +2,19 @@
 -- nothing.
 -- What holds of the rows from the last on, and of those from i on where it holds of those from i + 1 on, holds of all (`to-start`).
 -- Assumes nothing.
-use Prim.Native.Nat.{ℕ, zero, suc, _+_, _-_, _≤_, _<_}
+use Prim.Native.Nat.{ℕ, zero, suc, _+_, _*_, _-_, _≤_, _<_}
 use mathlib.Core.Path.{_≡_, refl, ap, _∙_}
 use mathlib.Core.Bool.{Bool, true, false, _||_}
 use mathlib.Core.List.{List, [], _∷_, _++_}
 use native.Mathlib.Numerals.{add-one}
 use native.Mathlib.Omega.{arith}
 use lib.Dec.{eqb}
+use lib.ListN.{length, getD}
 use borrow.Author.Tests.{eq-eqb, ne-eqb}
 use Rattle.spec.specs.Choice.{if_then_else_}
 use Rattle.spec.specs.Rows.{Row, tagOf, cellOf, hasTag, commitNumber, commitTag, rowAt, rowsIn, rowsFrom}
-use Rattle.spec.proofs.Rows.{rows-start, rows-step, rows-end, rows-last}
+use Rattle.spec.proofs.Bytes.{number-two}
+use Rattle.spec.proofs.Rows.{field, rows-start, rows-step, rows-end, rows-last}
 use Rattle.spec.specs.declared.Number.{Number}
 use Rattle.spec.specs.declared.Number.the-variants.{Some, None}
 use Rattle.spec.specs.declared.Found.the-variants.{At, Missing}
@@ -55,6 +57,12 @@ tag-yes tag r e = eq-eqb _ _ e
 pub tag-no : (tag : ℕ) (r : Row) → (tagOf r ≡ tag → ⊥) → hasTag tag r ≡ false
 unfolding hasTag
 tag-no tag r n = ne-eqb _ _ n
+
+-- a cell is a number of two bytes
+pub cell-fits : (k : ℕ) (s : List ℕ) → 24 * k + 24 ≤ length s → ((j : ℕ) → getD s j 0 < 256) → cellOf (rowAt 24 k s) < 65536
+unfolding cellOf
+cell-fits k s h b =
+    rw (← field 4 2 24 k s (omega arith)) (omega (arith, number-two s (24 * k + 4) (omega arith), b (24 * k + 4), b (24 * k + 4 + 1)))
 
 -- ---- folds by a test
 

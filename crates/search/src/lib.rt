@@ -7,7 +7,7 @@ ghost use lib.ListN.{length, set};
 ghost use Rattle.spec.specs.Set.{clients, member, insert};
 ghost use Rattle.spec.specs.Choice.{if_then_else_};
 ghost use Rattle.spec.specs.Rows.{dataWidth, commitWidth, dataRowsIn, commitRowsIn, rowAt, rowsFrom, tagOf};
-ghost use Rattle.spec.specs.Rows.{cellOf, commitNumber, hasTag};
+ghost use Rattle.spec.specs.Rows.{cellOf, commitNumber, commitTag, hasTag};
 ghost use Rattle.spec.specs.Look.{commitOf, lookFor};
 ghost use Rattle.spec.specs.Share.{any, wrote, cellsOf, conflict};
 ghost use Rattle.search.specs.Inner.{ownOf, sharersOf, Joined, Next, WrittenMarks};
@@ -29,7 +29,16 @@ pub fn next_tag(rows: &[u8], from: usize, used: usize, tag: u32) -> usize
     requires { ⌜ from ≤ used ⌝ }
     ensures { λ r. ⌜ Next (λ k. tagOf (rowAt dataWidth k (now (rows .entry))) ≡ tag) from used r ⌝ }
 {
-    let mut i = from;
+    let turns = (used - from) / 8;
+    for t in 0..turns {
+        for j in 0..8 {
+            let i = from + 8 * t + j;
+            if rows::tag_at(rows, i) == tag {
+                return i;
+            }
+        }
+    }
+    let mut i = from + 8 * turns;
     while i < used {
         if rows::tag_at(rows, i) == tag {
             return i;
@@ -44,9 +53,22 @@ fn next_cell(rows: &[u8], from: usize, used: usize, cell: u32) -> usize
     requires { ⌜ from ≤ used ⌝ }
     ensures { λ r. ⌜ Next (λ k. cellOf (rowAt dataWidth k (now (rows .entry))) ≡ cell) from used r ⌝ }
 {
-    let mut i = from;
+    if 65535 < cell {
+        return used;
+    }
+    let short = cell as u16;
+    let turns = (used - from) / 16;
+    for t in 0..turns {
+        for j in 0..16 {
+            let i = from + 16 * t + j;
+            if rows::short_cell_at(rows, i) == short {
+                return i;
+            }
+        }
+    }
+    let mut i = from + 16 * turns;
     while i < used {
-        if rows::cell_at(rows, i) == cell {
+        if rows::short_cell_at(rows, i) == short {
             return i;
         }
         i += 1;
@@ -54,17 +76,38 @@ fn next_cell(rows: &[u8], from: usize, used: usize, cell: u32) -> usize
     used
 }
 
+// The first committed row with that tag; entries where there is none.
+fn committed_at(commits: &[u8], entries: usize, tag: u32) -> usize
+    requires { ⌜ commitWidth * entries ≤ length (now commits) ⌝ }
+    ensures { λ r. ⌜ Next (λ k. commitTag (rowAt commitWidth k (now (commits .entry))) ≡ tag) 0 entries r ⌝ }
+{
+    let turns = entries / 16;
+    for t in 0..turns {
+        for j in 0..16 {
+            let i = 16 * t + j;
+            if rows::commit_tag_at(commits, i) == tag {
+                return i;
+            }
+        }
+    }
+    let mut i = 16 * turns;
+    while i < entries {
+        if rows::commit_tag_at(commits, i) == tag {
+            return i;
+        }
+        i += 1;
+    }
+    entries
+}
+
 // The number of the first committed row with that tag.
 pub fn commit_of(commits: &[u8], entries: usize, tag: u32) -> Number
     requires { ⌜ commitWidth * entries ≤ length (now commits) ⌝ }
     ensures { λ r. ⌜ r ≡ commitOf tag (commitRowsIn entries (now (commits .entry))) ⌝ }
 {
-    let mut i = 0;
-    while i < entries {
-        if rows::commit_tag_at(commits, i) == tag {
-            return Number::Some(rows::commit_number_at(commits, i));
-        }
-        i += 1;
+    let at = committed_at(commits, entries, tag);
+    if at < entries {
+        return Number::Some(rows::commit_number_at(commits, at));
     }
     Number::None
 }

@@ -1,45 +1,48 @@
--- `search::next_cell` stops at the first hit: no row that it passed is one.
-use Prim.Native.Nat.{ℕ, _≤_, _<_, _-_}
+-- `search::next_cell`: no row that it passed is a hit, sixteen a turn and then one by one; no row has a cell above 65,535.
+use Prim.Native.Nat.{_+_, _*_, _≤_, _-_}
 use mathlib.Core.Path.{_≡_, sym, _∙_}
 use native.Mathlib.Omega.{arith}
-use borrow.Author.Needs.{needs}
 use Rattle.spec.specs.Rows.{rowAt, cellOf}
-use Rattle.search.proofs.Passes.{miss-more}
+use Rattle.search.specs.Inner.{Next}
+use Rattle.search.proofs.Passes.{none, nowhere, same, miss, found}
+use Rattle.search.proofs.Folds.{cell-fits}
 use Rattle.search.proofs.next_cell.Statement.{statement}
 use Rattle.search.proofs.next_cell.Tie as tie
 
 abbrev Inv-loop : tie.InvT-loop
-Inv-loop rows from used cell i₀ i = (from ≤ i) × (i ≤ used) × ((k : ℕ) → from ≤ k → k < i → cellOf (rowAt 24 k rows) ≡ cell → ⊥)
+Inv-loop rows from used cell short turns t₀ t = (t ≤ turns) × Next (λ k. cellOf (rowAt 24 k rows) ≡ cell) from (from + 16 * t) (from + 16 * t)
 
-abbrev μ-loop : tie.MeasureT-loop
-μ-loop rows from used cell i₀ i = used - i
+abbrev Inv-loop2 : tie.InvT-loop2
+Inv-loop2 rows from used cell short turns t j₀ j =
+    (j ≤ 16) × Next (λ k. cellOf (rowAt 24 k rows) ≡ cell) from (from + 16 * t + j) (from + 16 * t + j)
 
-loop-holds : tie.Need-loop-holds Inv-loop μ-loop
-loop-holds c = (omega arith, omega arith, λ k l b e. omega arith)
+abbrev Inv-loop3 : tie.InvT-loop3
+Inv-loop3 rows from used cell short turns i₀ i = (i ≤ used) × Next (λ k. cellOf (rowAt 24 k rows) ≡ cell) from i i
 
-returns : tie.Need-returns Inv-loop μ-loop
-returns c =
-    let loop = c .before .before .before .loop in
-    record { start = loop .inv .0; end = loop .inv .1; misses = loop .inv .2; hit = λ l. sym (c .before .cell-at .ensures) ∙ c .if1 .taken }
-
-loop-again : tie.Need-loop-again Inv-loop μ-loop
-loop-again c =
-    let a = c .before .before .before .before .before .args in
-    let loop = c .before .before .before .loop in (
-      omega arith,
-      omega arith,
-      miss-more (λ k. cellOf (rowAt 24 k (a .rows .now)) ≡ a .cell) (a .from) (loop .i) (loop .inv .2)
-          (λ e. c .if1 .left (c .before .cell-at .ensures ∙ e)),
-    )
-
-returns-2 : tie.Need-returns-2 Inv-loop μ-loop
-returns-2 c =
-    let loop = c .before .loop in
-    record { start = omega arith; end = omega arith; misses = λ k l b. loop .inv .2 k l (omega arith); hit = λ l. omega arith }
 
 pub next-cell-spec : {M : Type 1} → statement M
 next-cell-spec =
     tie.close
     (tie.spec
-    Inv-loop μ-loop loop-holds (λ c κs. search needs) returns (λ c. search needs) (λ c. search needs) loop-again
-    returns-2)
+    Inv-loop2 (λ rows from used cell short turns t j₀ j. 16 - j)
+    Inv-loop (λ rows from used cell short turns t₀ t. turns - t)
+    Inv-loop3 (λ rows from used cell short turns i₀ i. used - i)
+    (λ c. nowhere (omega arith)
+    (λ k b e. omega (arith, cell-fits k (c .before .before .args .rows .now) (omega arith) (λ j. c .before .shared-slice-known .given j .fits))))
+    (λ c. omega arith)
+    (λ c. omega arith)
+    (λ c. (omega arith, none (omega arith)))
+    (λ c. (omega arith, same (c .before .loop .inv .1) (omega arith)))
+    (λ c. omega arith) (λ c. omega arith) (λ c. omega arith) (λ c κs. omega arith)
+    (λ c. found (c .before .before .before .loop2 .inv .1) (omega arith) (sym (c .before .short-cell-at .ensures) ∙ c .if2 .taken))
+    (λ c. omega arith) (λ c. omega arith)
+    (λ c. (omega arith, miss (c .before .before .before .loop2 .inv .1) (omega arith) (λ e. c .if2 .left (c .before .short-cell-at .ensures ∙ e))))
+    (λ c. omega arith) (λ c. omega arith)
+    (λ c. (omega arith, same (c .before .loop2 .inv .1) (omega arith)))
+    (λ c. omega arith) (λ c. omega arith)
+    (λ c. (omega arith, same (c .before .loop .inv .1) (omega arith)))
+    (λ c κs. omega arith)
+    (λ c. found (c .before .before .before .loop3 .inv .1) (omega arith) (sym (c .before .short-cell-at2 .ensures) ∙ c .if3 .taken))
+    (λ c. omega arith) (λ c. omega arith)
+    (λ c. (omega arith, miss (c .before .before .before .loop3 .inv .1) (omega arith) (λ e. c .if3 .left (c .before .short-cell-at2 .ensures ∙ e))))
+    (λ c. same (c .before .loop3 .inv .1) (omega arith)))

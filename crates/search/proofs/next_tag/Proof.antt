@@ -1,45 +1,42 @@
--- `search::next_tag` stops at the first hit: no row that it passed is one.
-use Prim.Native.Nat.{ℕ, _≤_, _<_, _-_}
+-- `search::next_tag`: no row that it passed is a hit, eight a turn and then one by one.
+use Prim.Native.Nat.{_+_, _*_, _≤_, _-_}
 use mathlib.Core.Path.{_≡_, sym, _∙_}
 use native.Mathlib.Omega.{arith}
-use borrow.Author.Needs.{needs}
 use Rattle.spec.specs.Rows.{rowAt, tagOf}
-use Rattle.search.proofs.Passes.{miss-more}
+use Rattle.search.specs.Inner.{Next}
+use Rattle.search.proofs.Passes.{none, same, miss, found}
 use Rattle.search.proofs.next_tag.Statement.{statement}
 use Rattle.search.proofs.next_tag.Tie as tie
 
 abbrev Inv-loop : tie.InvT-loop
-Inv-loop rows from used tag i₀ i = (from ≤ i) × (i ≤ used) × ((k : ℕ) → from ≤ k → k < i → tagOf (rowAt 24 k rows) ≡ tag → ⊥)
+Inv-loop rows from used tag turns t₀ t = (t ≤ turns) × Next (λ k. tagOf (rowAt 24 k rows) ≡ tag) from (from + 8 * t) (from + 8 * t)
 
-abbrev μ-loop : tie.MeasureT-loop
-μ-loop rows from used tag i₀ i = used - i
+abbrev Inv-loop2 : tie.InvT-loop2
+Inv-loop2 rows from used tag turns t j₀ j = (j ≤ 8) × Next (λ k. tagOf (rowAt 24 k rows) ≡ tag) from (from + 8 * t + j) (from + 8 * t + j)
 
-loop-holds : tie.Need-loop-holds Inv-loop μ-loop
-loop-holds c = (omega arith, omega arith, λ k l b e. omega arith)
-
-returns : tie.Need-returns Inv-loop μ-loop
-returns c =
-    let loop = c .before .before .before .loop in
-    record { start = loop .inv .0; end = loop .inv .1; misses = loop .inv .2; hit = λ l. sym (c .before .tag-at .ensures) ∙ c .if1 .taken }
-
-loop-again : tie.Need-loop-again Inv-loop μ-loop
-loop-again c =
-    let a = c .before .before .before .before .before .args in
-    let loop = c .before .before .before .loop in (
-      omega arith,
-      omega arith,
-      miss-more (λ k. tagOf (rowAt 24 k (a .rows .now)) ≡ a .tag) (a .from) (loop .i) (loop .inv .2)
-          (λ e. c .if1 .left (c .before .tag-at .ensures ∙ e)),
-    )
-
-returns-2 : tie.Need-returns-2 Inv-loop μ-loop
-returns-2 c =
-    let loop = c .before .loop in
-    record { start = omega arith; end = omega arith; misses = λ k l b. loop .inv .2 k l (omega arith); hit = λ l. omega arith }
+abbrev Inv-loop3 : tie.InvT-loop3
+Inv-loop3 rows from used tag turns i₀ i = (i ≤ used) × Next (λ k. tagOf (rowAt 24 k rows) ≡ tag) from i i
 
 pub next-tag-spec : {M : Type 1} → statement M
 next-tag-spec =
     tie.close
     (tie.spec
-    Inv-loop μ-loop loop-holds (λ c κs. search needs) returns (λ c. search needs) (λ c. search needs) loop-again
-    returns-2)
+    Inv-loop2 (λ rows from used tag turns t j₀ j. 8 - j)
+    Inv-loop (λ rows from used tag turns t₀ t. turns - t)
+    Inv-loop3 (λ rows from used tag turns i₀ i. used - i)
+    (λ c. omega arith)
+    (λ c. (omega arith, none (omega arith)))
+    (λ c. (omega arith, same (c .before .loop .inv .1) (omega arith)))
+    (λ c. omega arith) (λ c. omega arith) (λ c. omega arith) (λ c κs. omega arith)
+    (λ c. found (c .before .before .before .loop2 .inv .1) (omega arith) (sym (c .before .tag-at .ensures) ∙ c .if1 .taken))
+    (λ c. omega arith) (λ c. omega arith)
+    (λ c. (omega arith, miss (c .before .before .before .loop2 .inv .1) (omega arith) (λ e. c .if1 .left (c .before .tag-at .ensures ∙ e))))
+    (λ c. omega arith) (λ c. omega arith)
+    (λ c. (omega arith, same (c .before .loop2 .inv .1) (omega arith)))
+    (λ c. omega arith) (λ c. omega arith)
+    (λ c. (omega arith, same (c .before .loop .inv .1) (omega arith)))
+    (λ c κs. omega arith)
+    (λ c. found (c .before .before .before .loop3 .inv .1) (omega arith) (sym (c .before .tag-at2 .ensures) ∙ c .if2 .taken))
+    (λ c. omega arith) (λ c. omega arith)
+    (λ c. (omega arith, miss (c .before .before .before .loop3 .inv .1) (omega arith) (λ e. c .if2 .left (c .before .tag-at2 .ensures ∙ e))))
+    (λ c. same (c .before .loop3 .inv .1) (omega arith)))
