@@ -1,25 +1,30 @@
--- Passes over rows. A pass (`Next`) goes from row `from` to the next hit r: whatever takes no notice of a row that is no hit is the same from `from` on
--- as from r on. A pass that has found nothing in the rows before i is `Next Hit from i i`.
+-- Passes over rows. A pass (`Next`) goes from row `from` to the next hit r: what holds on past every row that is no hit holds at r (`carry`), and whatever
+-- takes no notice of such a row is the same from `from` on as from r on (`skip`). A pass that has found nothing before row i is `Next Hit from i i`.
 -- Assumes nothing.
 use Prim.Native.Nat.{ℕ, zero, suc, _+_, _-_, _≤_, _<_}
-use mathlib.Core.Path.{_≡_, ap, _∙_}
+use mathlib.Core.Path.{_≡_, refl, _∙_}
 use native.Mathlib.Nat.{add-zero}
+use native.Mathlib.Decide.{decLt}
 use native.Mathlib.Omega.{arith}
 use borrow.Author.Count.{below-more}
 use Rattle.search.specs.Inner.{Next}
 
--- what does not change from any row to the next does not change over several
-skip-by : {A : Type 0} (F : ℕ → A) (d from : ℕ) → ((k : ℕ) → from ≤ k → k < from + d → F k ≡ F (k + 1)) → F from ≡ F (from + d)
-skip-by F zero from h = rw add-zero
-skip-by F (suc d) from h =
+carry-by : (P : ℕ → Type 0) (d from : ℕ) → ((k : ℕ) → from ≤ k → k < from + d → P k → P (k + 1)) → P from → P (from + d)
+carry-by P zero from more p = rw add-zero p
+carry-by P (suc d) from more p =
     let e : from + 1 + d ≡ from + suc d = omega arith in
-    h from (omega arith) (omega arith) ∙ skip-by F d (from + 1) (λ k l b. h k (omega arith) (omega arith)) ∙ ap F e
+    rw (← e) (carry-by P d (from + 1) (λ k l b. more k (omega arith) (omega arith)) (more from (omega arith) (omega arith) p))
+
+pub carry : {Hit : ℕ → Type 0} {from n r : ℕ} (P : ℕ → Type 0) → Next Hit from n r → ((k : ℕ) → k < n → (Hit k → ⊥) → P k → P (k + 1)) → P from → P r
+carry {from = from} {r = r} P pass more p =
+    let e : from + (r - from) ≡ r = omega (arith, pass .start) in
+    let q : P (from + (r - from)) = carry-by P (r - from) from
+    (λ k l b. more k (omega (arith, pass .end)) (pass .misses k l (omega (arith, pass .start)))) p in
+    rw e at q
 
 pub skip : {A : Type 0} {Hit : ℕ → Type 0} {from n r : ℕ} (F : ℕ → A) → Next Hit from n r
     → ((k : ℕ) → k < n → (Hit k → ⊥) → F k ≡ F (k + 1)) → F from ≡ F r
-skip {Hit = Hit} {from = from} {n = n} {r = r} F pass h =
-    let e : from + (r - from) ≡ r = omega (arith, pass .start) in
-    skip-by F (r - from) from (λ k l b. h k (omega (arith, pass .end)) (pass .misses k l (omega (arith, pass .start)))) ∙ ap F e
+skip {from = from} F pass h = carry (λ k. F from ≡ F k) pass (λ k l m e. e ∙ h k l m) refl
 
 -- ---- row by row
 
@@ -50,3 +55,12 @@ module _ {Hit : ℕ → Type 0} {from : ℕ} where
     -- a hit
     pub found : {n : ℕ} → i < n → Hit i → Next Hit from n i
     found l here = record { start = pass .start; end = omega arith; misses = pass .misses; hit = λ b. here }
+
+    -- a pass over the rest
+    pub joined : {n r : ℕ} → Next Hit i n r → Next Hit from n r
+    joined {r = r} rest =
+        record { start = omega (arith, pass .start, rest .start); end = rest .end; misses = λ k l b. misses k l b (decLt k i); hit = rest .hit }
+      where
+        misses : (k : ℕ) → from ≤ k → k < r → Dec (k < i) → Hit k → ⊥
+        misses k l b (yes a) = pass .misses k l a
+        misses k l b (no a) = rest .misses k (omega (arith, a)) b

@@ -151,13 +151,15 @@ pub fn has_rows(rows: &[u8], used: usize, tag: u32) -> bool
     ensures { λ r. ⌜ r ≡ any (hasTag tag) (dataRowsIn used (now (rows .entry))) ⌝ }
 {
     let mut i = used;
-    while 0 < i {
-        i -= 1;
-        if rows::tag_at(rows, i) == tag {
-            return true;
+    while 8 <= i {
+        i -= 8;
+        for j in 0..8 {
+            if rows::tag_at(rows, i + j) == tag {
+                return true;
+            }
         }
     }
-    false
+    next_tag(rows, 0, i, tag) < i
 }
 
 // The transaction's row for a cell, or how many rows it has, in one pass.
@@ -311,14 +313,15 @@ fn any_above(commits: &[u8], entries: usize, s: u32) -> bool
     requires { ⌜ commitWidth * entries ≤ length (now commits) ⌝ }
     ensures { λ r. ⌜ r ≡ any (λ c. ltb s (commitNumber c)) (commitRowsIn entries (now (commits .entry))) ⌝ }
 {
+    let mut found = false;
     let mut i = 0;
     while i < entries {
         if s < rows::commit_number_at(commits, i) {
-            return true;
+            found = true;
         }
         i += 1;
     }
-    false
+    found
 }
 
 // The smallest commit number above the snapshot of a row whose cell the transaction wrote.

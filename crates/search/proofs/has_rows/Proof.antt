@@ -1,47 +1,58 @@
--- `search::has_rows`: whether the transaction has a row is whether it has one among the first i rows.
-use Prim.Native.Nat.{_≤_}
-use mathlib.Core.Path.{_≡_, sym, _∙_}
-use mathlib.Core.Bool.{or-true, or-false}
+-- `search::has_rows`: no row from row i on is a hit, eight a turn from the end; the rest is a pass over the rows before i.
+use Prim.Native.Nat.{ℕ, _+_, _-_, _≤_}
+use mathlib.Core.Path.{_≡_, refl, sym, _∙_}
+use mathlib.Core.Bool.{Bool, true, false}
+use mathlib.Core.List.{List}
 use native.Mathlib.Omega.{arith}
-use borrow.Author.Needs.{needs}
-use Rattle.spec.specs.Rows.{rowsIn, hasTag}
+use lib.Dec.{ltb}
+use borrow.Author.Tests.{ltb-true, ltb-false}
+use Rattle.spec.specs.Rows.{rowAt, rowsIn, tagOf, hasTag}
 use Rattle.spec.specs.Share.{any}
-use Rattle.search.proofs.Folds.{tag-yes, tag-no, any-last}
+use Rattle.search.specs.Inner.{Next}
+use Rattle.search.proofs.Passes.{none, same, miss, joined}
+use Rattle.search.proofs.Folds.{tag-yes, tag-no, any-at, any-none}
 use Rattle.search.proofs.has_rows.Statement.{statement}
 use Rattle.search.proofs.has_rows.Tie as tie
 
+-- a pass over the rows before i, and none from i on
+rest : (tag i n r : ℕ) (s : List ℕ) → Next (λ k. tagOf (rowAt 24 k s) ≡ tag) 0 i r → Next (λ k. tagOf (rowAt 24 k s) ≡ tag) i n n
+    → ltb r i ≡ any (hasTag tag) (rowsIn 24 n s)
+rest tag i n r s pass after = go (ltb r i) refl
+  where
+    go : (t : Bool) → ltb r i ≡ t → t ≡ any (hasTag tag) (rowsIn 24 n s)
+    go true e =
+        sym (any-at (hasTag tag) 24 n s r (omega (arith, ltb-true r i e, after .start)) (tag-yes tag (rowAt 24 r s) (pass .hit (ltb-true r i e))))
+    go false e =
+        let h : r ≡ i = omega (arith, ltb-false r i e, pass .end) in
+        let all = joined (rw h at pass) after in
+        sym (any-none (hasTag tag) 24 n s (λ k b. tag-no tag (rowAt 24 k s) (all .misses k (omega arith) b)))
+
 abbrev Inv-loop : tie.InvT-loop
-Inv-loop rows used tag i₀ i = (i ≤ used) × (any (hasTag tag) (rowsIn 24 used rows) ≡ any (hasTag tag) (rowsIn 24 i rows))
+Inv-loop rows used tag i₀ i = (i ≤ used) × Next (λ k. tagOf (rowAt 24 k rows) ≡ tag) i used used
 
-abbrev μ-loop : tie.MeasureT-loop
-μ-loop rows used tag i₀ i = i
-
-returns : tie.Need-returns Inv-loop μ-loop
-returns c =
-    let a = c .before .before .before .before .before .args in
-    let loop = c .before .before .before .loop in
-    sym (loop .inv .1 ∙ any-last (hasTag (a .tag)) 24 (loop .i) (a .rows .now) (omega arith) ∙ rw
-    (tag-yes (a .tag) _ (sym (c .before .tag-at .ensures) ∙ c .if1 .taken), or-true))
-
-loop-again : tie.Need-loop-again Inv-loop μ-loop
-loop-again c =
-    let a = c .before .before .before .before .before .args in
-    let loop = c .before .before .before .loop in (
-      omega arith,
-      loop .inv .1 ∙ any-last (hasTag (a .tag)) 24 (loop .i) (a .rows .now) (omega arith) ∙ rw
-          (tag-no (a .tag) _ (λ e. c .if1 .left (c .before .tag-at .ensures ∙ e)), or-false),
-    )
-
-returns-2 : tie.Need-returns-2 Inv-loop μ-loop
-unfolding any rowsIn
-returns-2 c =
-    let loop = c .before .loop in
-    let e : loop .i ≡ 0 = omega arith in
-    sym (loop .inv .1 ∙ rw e)
+abbrev Inv-loop2 : tie.InvT-loop2
+Inv-loop2 rows used tag i j₀ j = (j ≤ 8) × Next (λ k. tagOf (rowAt 24 k rows) ≡ tag) i (i + j) (i + j)
 
 pub has-rows-spec : {M : Type 1} → statement M
 has-rows-spec =
     tie.close
     (tie.spec
-    Inv-loop μ-loop (λ c. search needs) (λ c. search needs) (λ c κs. search needs) returns (λ c. search needs)
-    loop-again returns-2)
+    Inv-loop2 (λ rows used tag i j₀ j. 8 - j)
+    Inv-loop (λ rows used tag i₀ i. i)
+    (λ c. (omega arith, none refl))
+    (λ c. (omega arith, none (omega arith)))
+    (λ c. omega arith)
+    (λ c. (omega arith, joined (same (c .before .loop2 .inv .1) (omega arith)) (c .before .before .before .loop .inv .1)))
+    (λ c. omega arith) (λ c κs. omega arith)
+    (λ c.
+    let a = c .before .before .before .before .before .before .before .args in
+    let i = c .before .before .before .before .before .loop .i in
+    sym (any-at (hasTag (a .tag)) 24 (a .used) (a .rows .now) (i - 8 + c .before .before .before .loop2 .j) (omega arith)
+    (tag-yes (a .tag) _ (sym (c .before .tag-at .ensures) ∙ c .if1 .taken))))
+    (λ c. omega arith) (λ c. omega arith)
+    (λ c. (omega arith, miss (c .before .before .before .loop2 .inv .1) (omega arith) (λ e. c .if1 .left (c .before .tag-at .ensures ∙ e))))
+    (λ c κs. omega arith)
+    (λ c.
+    let a = c .before .before .before .before .args in
+    let loop = c .before .before .loop in
+    rest (a .tag) (loop .i) (a .used) (c .next-tag .result) (a .rows .now) (c .next-tag .ensures) (loop .inv .1)))
