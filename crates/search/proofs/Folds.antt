@@ -2,10 +2,10 @@
 -- nothing.
 -- What holds of the rows from the last on, and of those from i on where it holds of those from i + 1 on, holds of all (`to-start`).
 -- Assumes nothing.
-use Prim.Native.Nat.{ℕ, zero, suc, _+_, _*_, _-_, _≤_, _<_}
-use mathlib.Core.Path.{_≡_, refl, ap, _∙_}
-use mathlib.Core.Bool.{Bool, true, false, _||_}
-use mathlib.Core.List.{List, [], _∷_, _++_}
+use Prim.Native.Nat.{ℕ, zero, suc, _+_, _*_, _≤_, _<_}
+use mathlib.Core.Path.{_≡_, refl, _∙_}
+use mathlib.Core.Bool.{Bool, true, false}
+use mathlib.Core.List.{List, [], _∷_}
 use native.Mathlib.Numerals.{add-one}
 use native.Mathlib.Omega.{arith}
 use lib.Dec.{eqb}
@@ -14,7 +14,7 @@ use borrow.Author.Tests.{eq-eqb, ne-eqb}
 use Rattle.spec.specs.Choice.{if_then_else_}
 use Rattle.spec.specs.Rows.{Row, tagOf, cellOf, hasTag, commitNumber, commitTag, rowAt, rowsIn, rowsFrom}
 use Rattle.spec.proofs.Bytes.{number-two}
-use Rattle.spec.proofs.Rows.{field, rows-start, rows-step, rows-end, rows-last}
+use Rattle.spec.proofs.Rows.{field, rows-start, rows-step, rows-end}
 use Rattle.spec.specs.declared.Number.{Number}
 use Rattle.spec.specs.declared.Number.the-variants.{Some, None}
 use Rattle.spec.specs.declared.Found.the-variants.{At, Missing}
@@ -27,10 +27,6 @@ use Rattle.spec.specs.Share.{any, count, wrote, cellsOf}
 pub if-same : {A : Type 0} (b : Bool) (x : A) → (if b then x else x) ≡ x
 if-same true x = refl
 if-same false x = refl
-
-pub if-itself : (b : Bool) → (if b then true else false) ≡ b
-if-itself true = refl
-if-itself false = refl
 
 -- ---- tests of a row
 
@@ -210,22 +206,3 @@ module _ (tag cell w n i : ℕ) (s : List ℕ) where
   pub wrote-end : n ≤ i → wrote (rowsFrom w n i s) tag cell ≡ false
   unfolding wrote
   wrote-end h = any-end (isOwn tag cell) w n i s h
-
--- ---- a search from the end
-
-any-append : (p : Row → Bool) (xs ys : List Row) → any p (xs ++ ys) ≡ (any p xs || any p ys)
-unfolding any
-any-append p [] ys = refl
-any-append p (x ∷ xs) ys = go (p x) (any-append p xs ys)
-  where
-    go : (t : Bool) → any p (xs ++ ys) ≡ (any p xs || any p ys)
-        → (if t then true else any p (xs ++ ys)) ≡ ((if t then true else any p xs) || any p ys)
-    go true h = refl
-    go false h = h
-
-pub any-last : (p : Row → Bool) (w i : ℕ) (s : List ℕ) → 0 < i → any p (rowsIn w i s) ≡ (any p (rowsIn w (i - 1) s) || p (rowAt w (i - 1) s))
-unfolding any
-any-last p w i s h =
-    let e : i ≡ suc (i - 1) = omega arith in
-    ap (λ (n : ℕ). any p (rowsIn w n s)) e
-    ∙ rw (rows-last w (i - 1) s, any-append p (rowsIn w (i - 1) s) (rowAt w (i - 1) s ∷ []), if-itself (p (rowAt w (i - 1) s)))

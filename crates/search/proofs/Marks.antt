@@ -9,16 +9,30 @@ use native.Mathlib.Omega.{arith}
 use lib.ListN.{length, getD, set, length-set}
 use lib.Seq.{getD-set-same, getD-set-other}
 use lib.Dec.{eqb, ltb}
-use borrow.Author.Tests.{eqb-true, eqb-false, lt-ltb}
+use borrow.Author.Tests.{eqb-true, eqb-false, lt-ltb, ltb-true}
 use Rattle.spec.specs.Choice.{if_then_else_}
-use Rattle.spec.specs.Rows.{tagOf, cellOf, rowAt, rowsFrom}
+use Rattle.spec.specs.Rows.{Row, tagOf, cellOf, rowAt, rowsFrom}
 use Rattle.spec.specs.Share.{wrote}
+use Rattle.search.specs.Inner.{WrittenMarks, mayHave}
 use Rattle.search.proofs.Folds.{wrote-hit, wrote-miss}
 
 -- whether it is written, from the number that stands for it
 pub from-mark : (t : Bool) → eqb (if t then 1 else 0) 1 ≡ t
 from-mark true = refl
 from-mark false = refl
+
+-- a cell that by the marks the transaction cannot have written
+pub unmarked : {marks : List ℕ} {ds : List Row} {tag : ℕ} → WrittenMarks marks ds tag → (cell : ℕ) → (mayHave marks cell ≡ true → ⊥)
+    → wrote ds tag cell ≡ false
+unmarked {marks = marks} {ds = ds} {tag = tag} m cell n = go (ltb cell 1024) refl n
+  where
+    off : (t : Bool) → (t ≡ true → ⊥) → t ≡ false
+    off true n = absurd (n refl)
+    off false n = refl
+
+    go : (t : Bool) → ltb cell 1024 ≡ t → ((if t then eqb (getD marks cell 0) 1 else true) ≡ true → ⊥) → wrote ds tag cell ≡ false
+    go true e n = off (wrote ds tag cell) (λ w. n (rw (m .each cell (ltb-true cell 1024 e), w)))
+    go false e n = absurd (n refl)
 
 -- what `mark` leaves
 abbrev pub marks-written : List ℕ → ℕ → List ℕ

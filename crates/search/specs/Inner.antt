@@ -4,8 +4,8 @@ use Prim.Native.Nat.{ℕ, _≤_, _<_}
 use mathlib.Core.Path.{_≡_}
 use mathlib.Core.List.{List}
 use lib.ListN.{length, getD}
-use mathlib.Core.Bool.{_&&_, _||_}
-use lib.Dec.{eqb}
+use mathlib.Core.Bool.{Bool, true, _&&_, _||_}
+use lib.Dec.{eqb, ltb}
 use Rattle.spec.specs.Choice.{if_then_else_}
 use Rattle.spec.specs.Set.{clients, member, collect}
 use Rattle.spec.specs.Look.{isOwn, find}
@@ -29,6 +29,10 @@ pub record Next (Hit : ℕ → Type 0) (from n r : ℕ) : Type 0 where
 pub record WrittenMarks (marks : List ℕ) (ds : List Row) (tag : ℕ) : Type 0 where
   pub size : length marks ≡ 1024
   pub each : (x : ℕ) → x < 1024 → getD marks x 0 ≡ (if wrote ds tag x then 1 else 0)
+
+-- whether by the marks the transaction may have written the cell: one above 1,023 has no mark
+abbrev pub mayHave : List ℕ → ℕ → Bool
+mayHave marks cell = if ltb cell 1024 then eqb (getD marks cell 0) 1 else true
 
 -- where the transaction's row for a cell is, or how many rows it has
 abbrev pub rowOrCount : Found → ℕ → Own

@@ -10,7 +10,7 @@ ghost use Rattle.spec.specs.Rows.{dataWidth, commitWidth, dataRowsIn, commitRow
 ghost use Rattle.spec.specs.Rows.{cellOf, commitNumber, commitTag, hasTag};
 ghost use Rattle.spec.specs.Look.{commitOf, lookFor};
 ghost use Rattle.spec.specs.Share.{any, wrote, cellsOf, conflict};
-ghost use Rattle.search.specs.Inner.{ownOf, sharersOf, Joined, Next, WrittenMarks};
+ghost use Rattle.search.specs.Inner.{ownOf, sharersOf, mayHave, Joined, Next, WrittenMarks};
 use spec::CLIENTS;
 use spec::Lookup;
 use spec::Number;
@@ -262,6 +262,44 @@ fn has_written(marks: &[u8; 1024], rows: &[u8], used: usize, tag: u32, cell: u32
     wrote_from(rows, 0, used, tag, cell)
 }
 
+// Whether the transaction may have written row i's cell: a marked one, or one above 1,023, which has no mark.
+fn may_have(marks: &[u8; 1024], rows: &[u8], i: usize) -> bool
+    requires { ⌜ dataWidth * i + 24 ≤ length (now rows) ⌝ }
+    ensures { λ r. ⌜ r ≡ mayHave (now (marks .entry)) (cellOf (rowAt dataWidth i (now (rows .entry)))) ⌝ }
+{
+    let cell = rows::cell_at(rows, i);
+    if cell < 1024 {
+        return marks[cell as usize] == 1;
+    }
+    true
+}
+
+// The next row, from row from on, whose cell the transaction may have written; used where there is none.
+fn next_marked(marks: &[u8; 1024], rows: &[u8], from: usize, used: usize) -> usize
+    requires { ⌜ dataWidth * used ≤ length (now rows) ⌝ }
+    requires { ⌜ from ≤ used ⌝ }
+    ensures { λ r. ⌜ Next (λ k. mayHave (now (marks .entry)) (cellOf (rowAt dataWidth k (now (rows .entry)))) ≡ true)
+        from used r ⌝ }
+{
+    let turns = (used - from) / 8;
+    for t in 0..turns {
+        for j in 0..8 {
+            let i = from + 8 * t + j;
+            if may_have(marks, rows, i) {
+                return i;
+            }
+        }
+    }
+    let mut i = from + 8 * turns;
+    while i < used {
+        if may_have(marks, rows, i) {
+            return i;
+        }
+        i += 1;
+    }
+    used
+}
+
 // The set, and the client if it is queued and its transaction has that number.
 fn with_writer(found: Set, queued: Set, client: u32, number: u32, tag: u32) -> Set
     ensures { λ r. ⌜ r ≡ (if member queued client && eqb number tag then insert clients found client else found) ⌝ }
@@ -296,12 +334,12 @@ pub fn sharers(rows: &[u8], used: usize, tag: u32, numbers: &[u32; CLIENTS], que
     }
     let marks = cells_of(rows, used, tag);
     let mut found: Set = 0;
-    let mut i = 0;
+    let mut i = next_marked(&marks, rows, 0, used);
     while i < used {
         if has_written(&marks, rows, used, tag, rows::cell_at(rows, i)) {
             found = with_writers(found, queued, numbers, rows::tag_at(rows, i));
         }
-        i += 1;
+        i = next_marked(&marks, rows, i + 1, used);
     }
     found
 }
@@ -343,13 +381,13 @@ pub fn conflict(
     }
     let marks = cells_of(rows, used, tag);
     let mut best = Number::None;
-    let mut i = 0;
+    let mut i = next_marked(&marks, rows, 0, used);
     while i < used {
         if has_written(&marks, rows, used, tag, rows::cell_at(rows, i)) {
             let number = commit_of(commits, entries, rows::tag_at(rows, i));
             best = numbers::lesser_of(best, numbers::above_of(snapshot, number));
         }
-        i += 1;
+        i = next_marked(&marks, rows, i + 1, used);
     }
     best
 }

@@ -1,9 +1,13 @@
--- `search::sharers`: the members so far, and the queued clients that share a cell in the rest of the rows, are all that share one.
-use Prim.Native.Nat.{_<_, _-_, _^_}
+-- `search::sharers`: the members so far, and the queued clients that share a cell in the rest of the rows, are all that share one; rows of cells that
+-- the transaction cannot have written are passed over.
+use Prim.Native.Nat.{_+_, _<_, _-_, _^_}
 use mathlib.Core.Logic.{⊎-elim}
 use native.Mathlib.Omega.{arith}
 use borrow.Author.Needs.{needs}
 use Rattle.spec.specs.Set.{clients}
+use Rattle.spec.specs.Rows.{rowAt, cellOf}
+use Rattle.search.proofs.Passes.{carry}
+use Rattle.search.proofs.Marks.{unmarked}
 use Rattle.search.proofs.Sharing.{Shared, share-none, share-start, share-hit, share-miss, share-end}
 use Rattle.search.proofs.sharers.Statement.{statement}
 use Rattle.search.proofs.sharers.Tie as tie
@@ -18,33 +22,52 @@ returns : tie.Need-returns Inv-loop μ-loop
 returns c = rw (c .if1 .taken) (share-none _)
 
 loop-holds : tie.Need-loop-holds Inv-loop μ-loop
-loop-holds c = (omega arith, share-start _ _ _ _ _)
+loop-holds c =
+    let cells = c .before .before in
+    let a = cells .before .before .before .args in (
+      omega arith,
+      carry (Shared (a .tag) (a .queued) (a .used) (a .rows .now) (a .numbers .now) 0) (c .next-marked .ensures)
+          (λ k l m s. share-miss (a .tag) (a .queued) (a .used) (a .rows .now) (a .numbers .now) 0 k s l
+          (unmarked (cells .cells-of .ensures) (cellOf (rowAt 24 k (a .rows .now))) m))
+          (share-start (a .tag) (a .queued) (a .used) (a .rows .now) (a .numbers .now)),
+    )
 
 has-written-requires : tie.Need-has-written-requires Inv-loop μ-loop
-has-written-requires c κs = (omega arith, c .before .before .before .before .cells-of .ensures)
+has-written-requires c κs = (omega arith, c .before .before .before .before .before .before .cells-of .ensures)
 
 loop-again : tie.Need-loop-again Inv-loop μ-loop
 loop-again c =
-    let a = c .before .before .before .before .before .before .before .before .before .args in
-    let loop = c .before .before .before .before .before .loop in
+    let joined = c .before .before in
+    let written = joined .before in
+    let at = written .before .before .before .before in
+    let cells = at .before .before .before in
+    let a = cells .before .before .before .args in
+    let loop = at .loop in
+    let found = joined .if2 .found in
     let h : loop .i < a .used = omega arith in
-    ⊎-elim
+    let next : (found < 2 ^ clients) × Shared (a .tag) (a .queued) (a .used) (a .rows .now) (a .numbers .now) found (loop .i + 1) = ⊎-elim
     (λ w. (
       omega (arith, w .2 .ok, w .3),
       share-hit (a .tag) (a .queued) (a .used) (a .rows .now) (a .numbers .now) (loop .found) (loop .i) (loop .inv .1) h
-          (rw (← c .before .before .cell-at .ensures, ← c .before .has-written .ensures) (w .0 .taken)) (c .if2 .found)
+          (rw (← written .before .cell-at .ensures, ← written .has-written .ensures) (w .0 .taken)) found
           (λ j. rw (w .3, ← w .1 .ensures) (w .2 .ensures j)),
     ))
     (λ w. rw (w .1) (
       loop .inv .0,
       share-miss (a .tag) (a .queued) (a .used) (a .rows .now) (a .numbers .now) (loop .found) (loop .i) (loop .inv .1) h
-          (rw (← c .before .before .cell-at .ensures, ← c .before .has-written .ensures) (w .0 .left)),
+          (rw (← written .before .cell-at .ensures, ← written .has-written .ensures) (w .0 .left)),
     ))
-    (c .if2 .came)
+    (joined .if2 .came) in (
+      next .0,
+      carry (Shared (a .tag) (a .queued) (a .used) (a .rows .now) (a .numbers .now) found) (c .next-marked2 .ensures)
+          (λ k l m s. share-miss (a .tag) (a .queued) (a .used) (a .rows .now) (a .numbers .now) found k s l
+          (unmarked (cells .cells-of .ensures) (cellOf (rowAt 24 k (a .rows .now))) m))
+          (next .1),
+    )
 
 returns-2 : tie.Need-returns-2 Inv-loop μ-loop
 returns-2 c =
-    let start = c .before .before .before .before .before in
+    let start = c .before .before .before .before .before .before .before in
     let a = start .args in
     let loop = c .before .loop in
     share-end (a .tag) (a .queued) (a .used) (a .rows .now) (a .numbers .now) (loop .found) (loop .i) (loop .inv .1) (c .loop-test .left)
@@ -54,5 +77,6 @@ pub sharers-spec : {M : Type 1} → statement M
 sharers-spec =
     tie.close
     (tie.spec
-    Inv-loop μ-loop returns (λ c κs. search needs) loop-holds (λ c κs. search needs) has-written-requires
-    (λ c κs. search needs) (λ c κs. search needs) (λ c. search needs) (λ c. search needs) loop-again returns-2)
+    Inv-loop μ-loop returns (λ c κs. search needs) (λ c κs. search needs) loop-holds (λ c κs. search needs) has-written-requires
+    (λ c κs. search needs) (λ c κs. search needs) (λ c. search needs) (λ c κs. search needs)
+    (λ c. omega (arith, c .next-marked2 .ensures .start)) loop-again returns-2)
