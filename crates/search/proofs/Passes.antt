@@ -1,5 +1,6 @@
--- Passes over rows. A pass (`Next`) goes from row `from` to the next hit r: what holds on past every row that is no hit holds at r (`carry`), and whatever
--- takes no notice of such a row is the same from `from` on as from r on (`skip`). A pass that has found nothing before row i is `Next Hit from i i`.
+-- Passes over rows. A pass (`Next`) goes from row `from` to the next hit r: what holds on past every row that is no hit holds at r (`carry`), and
+-- whatever takes no notice of such a row is the same from `from` on as from r on (`skip`). A pass that has found nothing before row i is
+-- `Next Hit from i i`: rows are added to it one by one, and a hit ends it.
 -- Assumes nothing.
 use Prim.Native.Nat.{ℕ, zero, suc, _+_, _-_, _≤_, _<_}
 use mathlib.Core.Path.{_≡_, refl, _∙_}

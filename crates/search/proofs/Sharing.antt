@@ -36,13 +36,15 @@ empty j = member-above 0 0 j (omega arith) (omega arith)
 
 -- ---- client by client: the members are those of `found`, and the clients below i that p holds of
 
+abbrev pub Put : ℕ → (ℕ → Bool) → ℕ → ℕ → Type 0
+Put found p i out = (j : ℕ) → member out j ≡ (member found j || (ltb j i && p j))
+
 module _ (found : ℕ) (p : ℕ → Bool) where
-  pub put-start : (j : ℕ) → member found j ≡ (member found j || (ltb j 0 && p j))
+  pub put-start : Put found p 0 found
   put-start j = rw (le-ltb j 0 (omega arith), or-false)
 
-  pub writers-more : (out i : ℕ) → i < clients → ((j : ℕ) → member out j ≡ (member found j || (ltb j i && p j)))
-      → (j : ℕ) → member (if p i then insert clients out i else out) j ≡ (member found j || (ltb j (i + 1) && p j))
-  writers-more out i h all j = go (eqb j i) (p i) refl refl
+  pub writers-more : (out i n : ℕ) → i < clients → n ≡ i + 1 → Put found p i out → Put found p n (if p i then insert clients out i else out)
+  writers-more out i n h next all j = rw next (go (eqb j i) (p i) refl refl)
     where
       still : (j ≡ i → ⊥) → (t : Bool) → ltb j i ≡ t → ltb j (i + 1) ≡ t
       still n true e = lt-ltb j (i + 1) (omega (arith, ltb-true j i e))

@@ -317,8 +317,11 @@ fn with_writers(found: Set, queued: Set, numbers: &[u32; CLIENTS], tag: u32) -> 
     ensures { λ r. ⌜ Joined found queued (now (numbers .entry)) tag r ⌝ }
 {
     let mut out = found;
-    for i in 0..CLIENTS {
-        out = with_writer(out, queued, i as u32, numbers[i], tag);
+    for t in 0..CLIENTS / 8 {
+        for j in 0..8 {
+            let i = 8 * t + j;
+            out = with_writer(out, queued, i as u32, numbers[i], tag);
+        }
     }
     out
 }

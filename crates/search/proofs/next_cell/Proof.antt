@@ -19,7 +19,6 @@ Inv-loop2 rows from used cell short turns t j₀ j =
 abbrev Inv-loop3 : tie.InvT-loop3
 Inv-loop3 rows from used cell short turns i₀ i = (i ≤ used) × Next (λ k. cellOf (rowAt 24 k rows) ≡ cell) from i i
 
-
 pub next-cell-spec : {M : Type 1} → statement M
 next-cell-spec =
     tie.close

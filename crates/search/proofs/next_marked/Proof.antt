@@ -33,8 +33,11 @@ next-marked-spec =
     (λ c. omega arith) (λ c. omega arith) (λ c. omega arith) (λ c κs. omega arith)
     (λ c. found (c .before .before .before .loop2 .inv .1) (omega arith) (sym (c .before .may-have .ensures) ∙ c .if1 .taken))
     (λ c. omega arith) (λ c. omega arith)
-    (λ c. (omega arith, miss (c .before .before .before .loop2 .inv .1) (omega arith)
-    (λ e. true≢false (sym (c .before .may-have .ensures ∙ e) ∙ c .if1 .left))))
+    (λ c. (
+      omega arith,
+      miss (c .before .before .before .loop2 .inv .1) (omega arith)
+          (λ e. true≢false (sym (c .before .may-have .ensures ∙ e) ∙ c .if1 .left)),
+    ))
     (λ c. omega arith) (λ c. omega arith)
     (λ c. (omega arith, same (c .before .loop2 .inv .1) (omega arith)))
     (λ c. omega arith) (λ c. omega arith)
@@ -42,6 +45,9 @@ next-marked-spec =
     (λ c κs. omega arith)
     (λ c. found (c .before .before .before .loop3 .inv .1) (omega arith) (sym (c .before .may-have2 .ensures) ∙ c .if2 .taken))
     (λ c. omega arith) (λ c. omega arith)
-    (λ c. (omega arith, miss (c .before .before .before .loop3 .inv .1) (omega arith)
-    (λ e. true≢false (sym (c .before .may-have2 .ensures ∙ e) ∙ c .if2 .left))))
+    (λ c. (
+      omega arith,
+      miss (c .before .before .before .loop3 .inv .1) (omega arith)
+          (λ e. true≢false (sym (c .before .may-have2 .ensures ∙ e) ∙ c .if2 .left)),
+    ))
     (λ c. same (c .before .loop3 .inv .1) (omega arith)))
