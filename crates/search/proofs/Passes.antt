@@ -1,6 +1,6 @@
 -- Passes over rows. A pass (`Next`) goes from row `from` to the next hit r: what holds on past every row that is no hit holds at r (`carry`), and
 -- whatever takes no notice of such a row is the same from `from` on as from r on (`skip`). A pass that has found nothing before row i is
--- `Next Hit from i i`: rows are added to it one by one, and a hit ends it.
+-- `Past Hit from i`: rows are added to it one by one, and a hit ends it.
 -- Assumes nothing.
 use Prim.Native.Nat.{ℕ, zero, suc, _+_, _-_, _≤_, _<_}
 use mathlib.Core.Path.{_≡_, refl, _∙_}
@@ -29,22 +29,25 @@ skip {from = from} F pass h = carry (λ k. F from ≡ F k) pass (λ k l m e. e �
 
 -- ---- row by row
 
+abbrev pub Past : (ℕ → Type 0) → ℕ → ℕ → Type 0
+Past Hit from i = Next Hit from i i
+
 module _ {Hit : ℕ → Type 0} {from : ℕ} where
   -- no row passed yet
-  pub none : {n : ℕ} → n ≡ from → Next Hit from n n
+  pub none : {n : ℕ} → n ≡ from → Past Hit from n
   none e = record { start = omega arith; end = omega arith; misses = λ k l b h. omega arith; hit = λ l. absurd (omega arith) }
 
   -- no row is a hit
-  pub nowhere : {n : ℕ} → from ≤ n → ((k : ℕ) → k < n → Hit k → ⊥) → Next Hit from n n
+  pub nowhere : {n : ℕ} → from ≤ n → ((k : ℕ) → k < n → Hit k → ⊥) → Past Hit from n
   nowhere h all = record { start = h; end = omega arith; misses = λ k l b. all k b; hit = λ l. absurd (omega arith) }
 
-  module _ {i : ℕ} (pass : Next Hit from i i) where
+  module _ {i : ℕ} (pass : Past Hit from i) where
     -- the same row by another name
-    pub same : {n : ℕ} → n ≡ i → Next Hit from n n
+    pub same : {n : ℕ} → n ≡ i → Past Hit from n
     same e = rw e pass
 
     -- one more row that is no hit
-    pub miss : {n : ℕ} → n ≡ i + 1 → (Hit i → ⊥) → Next Hit from n n
+    pub miss : {n : ℕ} → n ≡ i + 1 → (Hit i → ⊥) → Past Hit from n
     miss e here =
         record {
           start = omega (arith, pass .start);

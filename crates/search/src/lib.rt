@@ -22,7 +22,8 @@ pub enum Own {
     Rows(usize),
 }
 
-// ---- the passes: the next row, from row from on, with a tag or a cell; used where there is none
+// ---- the passes: the next row, from row from on, with a tag or a cell; used where there is none. The inner loops have
+// a fixed length and are written out by the compiler: the outer one's own steps are shared by eight rows or sixteen.
 
 pub fn next_tag(rows: &[u8], from: usize, used: usize, tag: u32) -> usize
     requires { ⌜ dataWidth * used ≤ length (now rows) ⌝ }
@@ -151,13 +152,13 @@ pub fn has_rows(rows: &[u8], used: usize, tag: u32) -> bool
     ensures { λ r. ⌜ r ≡ any (hasTag tag) (dataRowsIn used (now (rows .entry))) ⌝ }
 {
     let mut i = used;
-    while 8 <= i {
-        i -= 8;
-        for j in 0..8 {
-            if rows::tag_at(rows, i + j) == tag {
+    while 16 <= i {
+        for j in 0..16 {
+            if rows::tag_at(rows, i - 1 - j) == tag {
                 return true;
             }
         }
+        i -= 16;
     }
     next_tag(rows, 0, i, tag) < i
 }
@@ -312,7 +313,7 @@ fn with_writer(found: Set, queued: Set, client: u32, number: u32, tag: u32) -> S
     found
 }
 
-// The set, and those of the queued clients whose transaction has that number.
+// The set, and those of the queued clients whose transaction has that number, eight clients a turn.
 fn with_writers(found: Set, queued: Set, numbers: &[u32; CLIENTS], tag: u32) -> Set
     ensures { λ r. ⌜ Joined found queued (now (numbers .entry)) tag r ⌝ }
 {
@@ -349,7 +350,8 @@ pub fn sharers(rows: &[u8], used: usize, tag: u32, numbers: &[u32; CLIENTS], que
 
 // ---- the check
 
-// Whether a committed row in use has a number above s.
+// Whether a committed row in use has a number above s. Goes to the end in any case: so the compiler takes several rows
+// at a time.
 fn any_above(commits: &[u8], entries: usize, s: u32) -> bool
     requires { ⌜ commitWidth * entries ≤ length (now commits) ⌝ }
     ensures { λ r. ⌜ r ≡ any (λ c. ltb s (commitNumber c)) (commitRowsIn entries (now (commits .entry))) ⌝ }

@@ -3,19 +3,18 @@ use Prim.Native.Nat.{_+_, _*_, _≤_, _-_}
 use mathlib.Core.Path.{_≡_, sym, _∙_}
 use native.Mathlib.Omega.{arith}
 use Rattle.spec.specs.Rows.{rowAt, commitTag}
-use Rattle.search.specs.Inner.{Next}
-use Rattle.search.proofs.Passes.{none, same, miss, found}
+use Rattle.search.proofs.Passes.{Past, none, same, miss, found}
 use Rattle.search.proofs.committed_at.Statement.{statement}
 use Rattle.search.proofs.committed_at.Tie as tie
 
 abbrev Inv-loop : tie.InvT-loop
-Inv-loop commits entries tag turns t₀ t = (t ≤ turns) × Next (λ k. commitTag (rowAt 8 k commits) ≡ tag) 0 (16 * t) (16 * t)
+Inv-loop commits entries tag turns t₀ t = (t ≤ turns) × Past (λ k. commitTag (rowAt 8 k commits) ≡ tag) 0 (16 * t)
 
 abbrev Inv-loop2 : tie.InvT-loop2
-Inv-loop2 commits entries tag turns t j₀ j = (j ≤ 16) × Next (λ k. commitTag (rowAt 8 k commits) ≡ tag) 0 (16 * t + j) (16 * t + j)
+Inv-loop2 commits entries tag turns t j₀ j = (j ≤ 16) × Past (λ k. commitTag (rowAt 8 k commits) ≡ tag) 0 (16 * t + j)
 
 abbrev Inv-loop3 : tie.InvT-loop3
-Inv-loop3 commits entries tag turns i₀ i = (i ≤ entries) × Next (λ k. commitTag (rowAt 8 k commits) ≡ tag) 0 i i
+Inv-loop3 commits entries tag turns i₀ i = (i ≤ entries) × Past (λ k. commitTag (rowAt 8 k commits) ≡ tag) 0 i
 
 pub committed-at-spec : {M : Type 1} → statement M
 committed-at-spec =

@@ -1,6 +1,6 @@
 -- `search::conflict`: the smallest of all rows is the lesser of the smallest so far and that of the rest; rows of cells that the transaction cannot
 -- have written are passed over; nothing where no commit is above the snapshot.
-use Prim.Native.Nat.{_+_, _<_, _-_}
+use Prim.Native.Nat.{_<_, _-_}
 use mathlib.Core.Path.{_≡_, sym, _∙_}
 use mathlib.Core.Logic.{⊎-elim}
 use native.Mathlib.Omega.{arith}

@@ -3,21 +3,20 @@ use Prim.Native.Nat.{_+_, _*_, _≤_, _-_}
 use mathlib.Core.Path.{_≡_, sym, _∙_}
 use native.Mathlib.Omega.{arith}
 use Rattle.spec.specs.Rows.{rowAt, cellOf}
-use Rattle.search.specs.Inner.{Next}
-use Rattle.search.proofs.Passes.{none, nowhere, same, miss, found}
+use Rattle.search.proofs.Passes.{Past, none, nowhere, same, miss, found}
 use Rattle.search.proofs.Folds.{cell-fits}
 use Rattle.search.proofs.next_cell.Statement.{statement}
 use Rattle.search.proofs.next_cell.Tie as tie
 
 abbrev Inv-loop : tie.InvT-loop
-Inv-loop rows from used cell short turns t₀ t = (t ≤ turns) × Next (λ k. cellOf (rowAt 24 k rows) ≡ cell) from (from + 16 * t) (from + 16 * t)
+Inv-loop rows from used cell short turns t₀ t = (t ≤ turns) × Past (λ k. cellOf (rowAt 24 k rows) ≡ cell) from (from + 16 * t)
 
 abbrev Inv-loop2 : tie.InvT-loop2
 Inv-loop2 rows from used cell short turns t j₀ j =
-    (j ≤ 16) × Next (λ k. cellOf (rowAt 24 k rows) ≡ cell) from (from + 16 * t + j) (from + 16 * t + j)
+    (j ≤ 16) × Past (λ k. cellOf (rowAt 24 k rows) ≡ cell) from (from + 16 * t + j)
 
 abbrev Inv-loop3 : tie.InvT-loop3
-Inv-loop3 rows from used cell short turns i₀ i = (i ≤ used) × Next (λ k. cellOf (rowAt 24 k rows) ≡ cell) from i i
+Inv-loop3 rows from used cell short turns i₀ i = (i ≤ used) × Past (λ k. cellOf (rowAt 24 k rows) ≡ cell) from i
 
 pub next-cell-spec : {M : Type 1} → statement M
 next-cell-spec =

@@ -4,21 +4,21 @@ use mathlib.Core.Path.{_≡_, sym, _∙_}
 use mathlib.Core.Bool.{true, true≢false}
 use native.Mathlib.Omega.{arith}
 use Rattle.spec.specs.Rows.{rowAt, cellOf}
-use Rattle.search.specs.Inner.{Next, mayHave}
-use Rattle.search.proofs.Passes.{none, same, miss, found}
+use Rattle.search.specs.Inner.{mayHave}
+use Rattle.search.proofs.Passes.{Past, none, same, miss, found}
 use Rattle.search.proofs.next_marked.Statement.{statement}
 use Rattle.search.proofs.next_marked.Tie as tie
 
 abbrev Inv-loop : tie.InvT-loop
 Inv-loop marks rows from used turns t₀ t =
-    (t ≤ turns) × Next (λ k. mayHave marks (cellOf (rowAt 24 k rows)) ≡ true) from (from + 8 * t) (from + 8 * t)
+    (t ≤ turns) × Past (λ k. mayHave marks (cellOf (rowAt 24 k rows)) ≡ true) from (from + 8 * t)
 
 abbrev Inv-loop2 : tie.InvT-loop2
 Inv-loop2 marks rows from used turns t j₀ j =
-    (j ≤ 8) × Next (λ k. mayHave marks (cellOf (rowAt 24 k rows)) ≡ true) from (from + 8 * t + j) (from + 8 * t + j)
+    (j ≤ 8) × Past (λ k. mayHave marks (cellOf (rowAt 24 k rows)) ≡ true) from (from + 8 * t + j)
 
 abbrev Inv-loop3 : tie.InvT-loop3
-Inv-loop3 marks rows from used turns i₀ i = (i ≤ used) × Next (λ k. mayHave marks (cellOf (rowAt 24 k rows)) ≡ true) from i i
+Inv-loop3 marks rows from used turns i₀ i = (i ≤ used) × Past (λ k. mayHave marks (cellOf (rowAt 24 k rows)) ≡ true) from i
 
 pub next-marked-spec : {M : Type 1} → statement M
 next-marked-spec =

@@ -3,19 +3,18 @@ use Prim.Native.Nat.{_+_, _*_, _≤_, _-_}
 use mathlib.Core.Path.{_≡_, sym, _∙_}
 use native.Mathlib.Omega.{arith}
 use Rattle.spec.specs.Rows.{rowAt, tagOf}
-use Rattle.search.specs.Inner.{Next}
-use Rattle.search.proofs.Passes.{none, same, miss, found}
+use Rattle.search.proofs.Passes.{Past, none, same, miss, found}
 use Rattle.search.proofs.next_tag.Statement.{statement}
 use Rattle.search.proofs.next_tag.Tie as tie
 
 abbrev Inv-loop : tie.InvT-loop
-Inv-loop rows from used tag turns t₀ t = (t ≤ turns) × Next (λ k. tagOf (rowAt 24 k rows) ≡ tag) from (from + 8 * t) (from + 8 * t)
+Inv-loop rows from used tag turns t₀ t = (t ≤ turns) × Past (λ k. tagOf (rowAt 24 k rows) ≡ tag) from (from + 8 * t)
 
 abbrev Inv-loop2 : tie.InvT-loop2
-Inv-loop2 rows from used tag turns t j₀ j = (j ≤ 8) × Next (λ k. tagOf (rowAt 24 k rows) ≡ tag) from (from + 8 * t + j) (from + 8 * t + j)
+Inv-loop2 rows from used tag turns t j₀ j = (j ≤ 8) × Past (λ k. tagOf (rowAt 24 k rows) ≡ tag) from (from + 8 * t + j)
 
 abbrev Inv-loop3 : tie.InvT-loop3
-Inv-loop3 rows from used tag turns i₀ i = (i ≤ used) × Next (λ k. tagOf (rowAt 24 k rows) ≡ tag) from i i
+Inv-loop3 rows from used tag turns i₀ i = (i ≤ used) × Past (λ k. tagOf (rowAt 24 k rows) ≡ tag) from i
 
 pub next-tag-spec : {M : Type 1} → statement M
 next-tag-spec =
