@@ -28,6 +28,10 @@ pub if-same : {A : Type 0} (b : Bool) (x : A) → (if b then x else x) ≡ x
 if-same true x = refl
 if-same false x = refl
 
+pub if-itself : (b : Bool) → (if b then true else false) ≡ b
+if-itself true = refl
+if-itself false = refl
+
 -- ---- tests of a row
 
 pub own-yes : (tag cell : ℕ) (r : Row) → tagOf r ≡ tag → cellOf r ≡ cell → isOwn tag cell r ≡ true

@@ -29,6 +29,10 @@ skip {from = from} F pass h = carry (λ k. F from ≡ F k) pass (λ k l m e. e �
 
 -- ---- row by row
 
+-- one more row that is no hit
+pub miss-more : (Hit : ℕ → Type 0) (from i : ℕ) → ((k : ℕ) → from ≤ k → k < i → Hit k → ⊥) → (Hit i → ⊥) → (k : ℕ) → from ≤ k → k < i + 1 → Hit k → ⊥
+miss-more Hit from i all here k l b = below-more (λ k. from ≤ k → Hit k → ⊥) i (λ k b l. all k l b) (λ l. here) k b l
+
 abbrev pub Past : (ℕ → Type 0) → ℕ → ℕ → Type 0
 Past Hit from i = Next Hit from i i
 
@@ -46,13 +50,12 @@ module _ {Hit : ℕ → Type 0} {from : ℕ} where
     pub same : {n : ℕ} → n ≡ i → Past Hit from n
     same e = rw e pass
 
-    -- one more row that is no hit
     pub miss : {n : ℕ} → n ≡ i + 1 → (Hit i → ⊥) → Past Hit from n
     miss e here =
         record {
           start = omega (arith, pass .start);
           end = omega arith;
-          misses = λ k l b. below-more (λ k. from ≤ k → Hit k → ⊥) i (λ k b l. pass .misses k l b) (λ l. here) k (omega arith) l;
+          misses = λ k l b. miss-more Hit from i (pass .misses) here k l (omega arith);
           hit = λ l. absurd (omega arith);
         }
 
