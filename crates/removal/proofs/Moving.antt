@@ -1,6 +1,7 @@
 -- The compaction. A row is moved down word by word: after k words the buffer is the old one with the first k words of the row put in at the
--- new place. A loop moves the rows to be kept to the front: before row i, `to` rows stand at the front, what is still to come is what is kept
--- of the rows from i on, and from row `to` on the bytes are the old ones. The rows before the first that goes stand where they were.
+-- new place. A loop moves the rows to be kept to the front, whatever they are chosen by: before row i, `to` rows stand at the front, what is still
+-- to come is what is kept of the rows from i on, and from row `to` on the bytes are the old ones. The rows before the first that goes stand where
+-- they were.
 -- Assumes nothing.
 use Prim.Native.Nat.{ℕ, zero, suc, _+_, _*_, _-_, _≤_, _<_}
 use mathlib.Core.Path.{_≡_, refl, sym, ap, _∙_}
@@ -14,14 +15,14 @@ use borrow.Author.Count.{below-more}
 use borrow.Rule.Slice.PartMut.{putMid, post-is}
 use borrow.Author.Tests.{eq-eqb, ne-eqb, eqb-false}
 use lib.ListN.{length, set, take, drop, getD, replicate, length-append, length-drop, take-append-drop}
-use lib.Seq.{sets-eq, drop-cons, take-at, drop-at, take-add, length-take-le, drop-drop, getD-set-same, getD-set-other}
+use lib.Seq.{sets-eq, drop-cons, take-all, take-at, drop-at, take-add, length-take-le, drop-drop, getD-set-same, getD-set-other}
 use Rattle.spec.specs.Choice.{if_then_else_}
 use Rattle.spec.specs.Rows.{Row, part, spliced, rowAt, rowsIn, rowsFrom, layout, filter, tagOf, hasTag}
 use Rattle.spec.proofs.Bytes.{spliced-next, take-spliced, drop-spliced, length-spliced, drop-later}
 use Rattle.spec.proofs.Rows.{rows-start, rows-step, rows-end, row-inside, row-length, length-rows}
 use Rattle.spec.proofs.Laid.{laid-fewer, laid-same}
 use Rattle.search.proofs.Folds.{to-start}
-use Rattle.removal.specs.Inner.{keptFrom, otherTag, Flags, Left}
+use Rattle.removal.specs.Inner.{keptFrom, otherTag, Flags, Left, InFront, Freed}
 
 -- ---- a word, and a row of words
 
@@ -50,13 +51,35 @@ spliced-eight : (s : List ℕ) (at a b c d e f g h : ℕ) → at + 8 ≤ length 
 unfolding spliced
 spliced-eight s at a b c d e f g h l = simp towards-suc (simp towards-suc at (sets-eq (a ∷ b ∷ c ∷ d ∷ e ∷ f ∷ g ∷ h ∷ []) s at l))
 
--- eight reads, then eight stores
-pub word-moved : (s : List ℕ) (from to : ℕ) → from + 8 ≤ length s → to + 8 ≤ length s
-    → set (set (set (set (set (set (set (set s to (getD s from 0)) (to + 1) (getD s (from + 1) 0)) (to + 2) (getD s (from + 2) 0)) (to + 3)
-    (getD s (from + 3) 0)) (to + 4) (getD s (from + 4) 0)) (to + 5) (getD s (from + 5) 0)) (to + 6) (getD s (from + 6) 0)) (to + 7)
-    (getD s (from + 7) 0)
-    ≡ spliced to (part from 8 s) s
-word-moved s from to h l = rw (part-eight s from h) (spliced-eight s to _ _ _ _ _ _ _ _ l)
+-- a word is read
+pub word-read : (s : List ℕ) (at : ℕ) → at + 8 ≤ length s
+    → getD s at 0 ∷ getD s (at + 1) 0 ∷ getD s (at + 2) 0 ∷ getD s (at + 3) 0 ∷ getD s (at + 4) 0 ∷ getD s (at + 5) 0 ∷ getD s (at + 6) 0
+    ∷ getD s (at + 7) 0 ∷ [] ≡ part at 8 s
+word-read s at h = sym (part-eight s at h)
+
+-- a word is stored
+pub word-stored : (s : List ℕ) (at : ℕ) (word : List ℕ) → at + 8 ≤ length s → length word ≡ 8
+    → set (set (set (set (set (set (set (set s at (getD word 0 0)) (at + 1) (getD word 1 0)) (at + 2) (getD word 2 0)) (at + 3) (getD word 3 0))
+    (at + 4) (getD word 4 0)) (at + 5) (getD word 5 0)) (at + 6) (getD word 6 0)) (at + 7) (getD word 7 0)
+    ≡ spliced at word s
+word-stored s at word h e =
+    let whole : part 0 8 word ≡ word = take-all 8 word (omega arith) in
+    spliced-eight s at _ _ _ _ _ _ _ _ h ∙ ap (λ (v : List ℕ). spliced at v s) (word-read word 0 (omega arith) ∙ whole)
+
+-- a bytes were put in, and then the m that stood behind them
+parts-stored : (s : List ℕ) (from to a m : ℕ) → to ≤ from → from + (a + m) ≤ length s
+    → spliced (to + a) (part (from + a) m s) (spliced to (part from a s) s) ≡ spliced to (part from (a + m) s) s
+parts-stored s from to a m h l =
+    let u : List ℕ = part from a s in
+    let wide : length u ≡ a = length-take-le a (drop from s) (simp length-drop (omega arith)) in
+    let next : to + length u ≡ to + a = rw wide in
+    let joined : u ++ part (from + a) m s ≡ part from (a + m) s = rw (take-add a m (drop from s), drop-drop) in
+    spliced-next s u (part (from + a) m s) to (to + a) next (omega arith) ∙ ap (λ (v : List ℕ). spliced to v s) joined
+
+-- three words of a row
+pub row-stored : (s : List ℕ) (from to : ℕ) → to ≤ from → from + 24 ≤ length s
+    → spliced (to + 16) (part (from + 16) 8 s) (spliced (to + 8) (part (from + 8) 8 s) (spliced to (part from 8 s) s)) ≡ spliced to (part from 24 s) s
+row-stored s from to h l = rw (parts-stored s from to 8 8 h (omega arith)) (parts-stored s from to 16 8 h l)
 
 -- a bytes of a row were moved down, and then m more
 pub moved-more : (s : List ℕ) (from to a m : ℕ) → to ≤ from → from + (a + m) ≤ length s
@@ -67,8 +90,7 @@ moved-more s from to a m h l =
     let next : to + length u ≡ to + a = rw wide in
     let same : drop (from + a) (spliced to u s) ≡ drop (from + a) s =
     drop-later (to + a) (from + a) (spliced to u s) s (omega arith) (drop-spliced to u s (to + a) next (omega arith)) in
-    let joined : u ++ part (from + a) m s ≡ part from (a + m) s = rw (take-add a m (drop from s), drop-drop) in
-    rw same (spliced-next s u (part (from + a) m s) to (to + a) next (omega arith) ∙ ap (λ (v : List ℕ). spliced to v s) joined)
+    rw same (parts-stored s from to a m h l)
 
 pub moved-none : (s : List ℕ) (from to : ℕ) → s ≡ spliced to (part from 0 s) s
 unfolding spliced
@@ -84,55 +106,86 @@ in-place at n s h =
 -- ---- keptFrom
 
 module _ (flags : List ℕ) (w n i : ℕ) (s : List ℕ) where
-  kept-none : i < n → getD flags i 0 ≡ 0 → keptFrom flags i (rowsFrom w n i s) ≡ keptFrom flags (i + 1) (rowsFrom w n (i + 1) s)
+  pub kept-none : i < n → getD flags i 0 ≡ 0 → keptFrom flags i (rowsFrom w n i s) ≡ keptFrom flags (i + 1) (rowsFrom w n (i + 1) s)
   unfolding keptFrom
   kept-none h e = rw (rows-step w n i s h, eq-eqb _ _ e)
 
-  kept-one : i < n → (getD flags i 0 ≡ 0 → ⊥) → keptFrom flags i (rowsFrom w n i s) ≡ rowAt w i s ∷ keptFrom flags (i + 1) (rowsFrom w n (i + 1) s)
+  pub kept-one : i < n → (getD flags i 0 ≡ 0 → ⊥) → keptFrom flags i (rowsFrom w n i s) ≡ rowAt w i s ∷ keptFrom flags (i + 1) (rowsFrom w n (i +
+      1) s)
   unfolding keptFrom
   kept-one h e = rw (rows-step w n i s h, ne-eqb _ _ e)
 
-  kept-end : n ≤ i → keptFrom flags i (rowsFrom w n i s) ≡ []
+  pub kept-end : n ≤ i → keptFrom flags i (rowsFrom w n i s) ≡ []
   unfolding keptFrom
   kept-end h = rw (rows-end w n i s h)
+
+-- what is kept by flags of the rows from i on
+abbrev pub Kept : List ℕ → ℕ → ℕ → List ℕ → ℕ → List Row
+Kept flags w n s = λ i. keptFrom flags i (rowsFrom w n i s)
+
+pub kept-start : (flags : List ℕ) (w n : ℕ) (s : List ℕ) → Kept flags w n s 0 ≡ keptFrom flags 0 (rowsIn w n s)
+kept-start flags w n s = rw (rows-start w n s)
 
 row-same : (w i : ℕ) (x y : List ℕ) → drop (w * i) x ≡ drop (w * i) y → part (w * i) w x ≡ rowAt w i y
 unfolding rowAt
 row-same w i x y e = ap (take w) e
 
+-- ---- rows by a test
+
+module _ (p : Row → Bool) (w n i : ℕ) (s : List ℕ) where
+  pub filter-none : i < n → p (rowAt w i s) ≡ false → filter p (rowsFrom w n i s) ≡ filter p (rowsFrom w n (i + 1) s)
+  unfolding filter
+  filter-none h e = rw (rows-step w n i s h, e)
+
+  pub filter-one : i < n → p (rowAt w i s) ≡ true → filter p (rowsFrom w n i s) ≡ rowAt w i s ∷ filter p (rowsFrom w n (i + 1) s)
+  unfolding filter
+  filter-one h e = rw (rows-step w n i s h, e)
+
+  pub filter-end : n ≤ i → filter p (rowsFrom w n i s) ≡ []
+  unfolding filter
+  filter-end h = rw (rows-end w n i s h)
+
+pub filter-start : (p : Row → Bool) (w n : ℕ) (s : List ℕ) → filter p (rowsFrom w n 0 s) ≡ filter p (rowsIn w n s)
+filter-start p w n s = rw (rows-start w n s)
+
+-- what is kept of the data rows from i on where a transaction's rows go
+abbrev pub Others : ℕ → ℕ → List ℕ → ℕ → List Row
+Others tag n s = λ i. filter (otherTag tag) (rowsFrom 24 n i s)
+
+-- ---- the walk: `K i` are the rows that are kept of those from row i on
+
 -- after the first i of n rows of s, `to` rows are kept, at the front of buf
-pub record Moving (flags : List ℕ) (w n : ℕ) (s buf : List ℕ) (to i : ℕ) : Type 0 where
+pub record Moving (K : ℕ → List Row) (w n : ℕ) (s buf : List ℕ) (to i : ℕ) : Type 0 where
   pub last : i ≤ n
   pub fewer : to ≤ i
   pub size : length buf ≡ length s
-  pub count : to + length (keptFrom flags i (rowsFrom w n i s)) ≡ length (keptFrom flags 0 (rowsIn w n s))
-  pub front : take (w * to) buf ++ flatten (keptFrom flags i (rowsFrom w n i s)) ≡ flatten (keptFrom flags 0 (rowsIn w n s))
+  pub count : to + length (K i) ≡ length (K 0)
+  pub front : take (w * to) buf ++ flatten (K i) ≡ flatten (K 0)
   pub rest : drop (w * to) buf ≡ drop (w * to) s
 
-module _ (flags : List ℕ) (w n : ℕ) (s : List ℕ) where
-  pub moving-skip : (buf : List ℕ) (to i : ℕ) → i < n → getD flags i 0 ≡ 0 → Moving flags w n s buf to i → Moving flags w n s buf to (i + 1)
-  moving-skip buf to i h e m =
+module _ (K : ℕ → List Row) (w n : ℕ) (s : List ℕ) where
+  pub moving-skip : (buf : List ℕ) (to i : ℕ) → i < n → K i ≡ K (i + 1) → Moving K w n s buf to i → Moving K w n s buf to (i + 1)
+  moving-skip buf to i h k m =
       record {
         last = omega arith;
         fewer = omega arith;
         size = m .size;
-        count = rw (← kept-none flags w n i s h e) (m .count);
-        front = rw (← kept-none flags w n i s h e) (m .front);
+        count = rw (← k) (m .count);
+        front = rw (← k) (m .front);
         rest = m .rest;
       }
 
   module _ (l : w * n ≤ length s) where
-    pub moving-keep : (buf : List ℕ) (to i : ℕ) → i < n → (getD flags i 0 ≡ 0 → ⊥) → Moving flags w n s buf to i
-        → Moving flags w n s (spliced (w * to) (part (w * i) w buf) buf) (to + 1) (i + 1)
+    moving-keep : (buf : List ℕ) (to i : ℕ) → i < n → K i ≡ rowAt w i s ∷ K (i + 1) → Moving K w n s buf to i
+        → Moving K w n s (spliced (w * to) (part (w * i) w buf) buf) (to + 1) (i + 1)
     unfolding flatten
-    moving-keep buf to i h e m =
+    moving-keep buf to i h k m =
         let inside : w * i + w ≤ length s = row-inside w i n (length s) h l in
         let low : w * to ≤ w * i = mul-le-mul-left w (m .fewer) in
         let row : part (w * i) w buf ≡ rowAt w i s = row-same w i buf s (drop-later (w * to) (w * i) buf s low (m .rest)) in
         let wide : length (rowAt w i s) ≡ w = row-length w i s inside in
         let next : w * to + length (rowAt w i s) ≡ w * (to + 1) = rw (wide, add-one, mul-suc) in
         let room : w * (to + 1) ≤ length buf = omega arith in
-        let k = kept-one flags w n i s h e in
         record {
           last = omega arith;
           fewer = omega arith;
@@ -143,15 +196,20 @@ module _ (flags : List ℕ) (w n : ℕ) (s : List ℕ) where
               (drop-later (w * to) (w * (to + 1)) buf s (omega arith) (m .rest));
         }
 
+    -- by the places that the row is moved from and to
+    pub moving-moved : (buf buf′ : List ℕ) (left to i from : ℕ) → i < n → K i ≡ rowAt w i s ∷ K (i + 1) → Moving K w n s buf left i
+        → to ≡ w * left → from ≡ w * i → buf′ ≡ spliced to (part from w buf) buf → Moving K w n s buf′ (left + 1) (i + 1)
+    moving-moved buf buf′ left to i from h k m p q e = rw (e, p, q) (moving-keep buf left i h k m)
+
     -- the rows before the first that goes
-    pub moving-start : (first : ℕ) → first ≤ n → ((k : ℕ) → k < first → getD flags k 0 ≡ 0 → ⊥) → Moving flags w n s s first first
+    pub moving-start : (first : ℕ) → first ≤ n → ((k : ℕ) → k < first → K k ≡ rowAt w k s ∷ K (k + 1)) → Moving K w n s s first first
     moving-start zero h stay =
         record {
           last = omega arith;
           fewer = omega arith;
           size = refl;
-          count = rw (← rows-start w n s) (omega arith);
-          front = rw (← rows-start w n s, mul-zero);
+          count = omega arith;
+          front = rw mul-zero;
           rest = refl;
         }
     moving-start (suc i) h stay =
@@ -159,13 +217,15 @@ module _ (flags : List ℕ) (w n : ℕ) (s : List ℕ) where
         let next = moving-keep s i i (omega arith) (stay i (omega arith)) m in
         rw (in-place (w * i) w s (row-inside w i n (length s) (omega arith) l), add-one i) at next
 
-    pub moving-end : (buf : List ℕ) (to i : ℕ) → n ≤ i → Moving flags w n s buf to i
-        → (to ≡ length (keptFrom flags 0 (rowsIn w n s))) × (buf ≡ flatten (keptFrom flags 0 (rowsIn w n s)) ++ drop (w * to) s)
+    pub moving-end : (rs : List Row) → K 0 ≡ rs → (buf : List ℕ) (to i : ℕ) → n ≤ i → K i ≡ [] → Moving K w n s buf to i → InFront w n rs s buf to
     unfolding flatten
-    moving-end buf to i h m =
-        let k = kept-end flags w n i s h in
-        let f : take (w * to) buf ≡ flatten (keptFrom flags 0 (rowsIn w n s)) = sym (append-nil (take (w * to) buf)) ∙ (rw k at (m .front)) in
-        (omega (arith, m .count, ap length k), rw (← f, ← m .rest) (sym (take-append-drop (w * to) buf)))
+    moving-end rs e buf to i h k m =
+        let f : take (w * to) buf ≡ flatten rs = sym (append-nil (take (w * to) buf)) ∙ (rw (k, e) at (m .front)) in
+        record {
+          rows = omega (arith, m .count, ap length k, ap length e);
+          fewer = omega arith;
+          bytes = rw (← f, ← m .rest) (sym (take-append-drop (w * to) buf));
+        }
 
 -- ---- what is left is no more than what there was
 
@@ -183,20 +243,27 @@ pub kept-at-most : (flags : List ℕ) (w n : ℕ) (s : List ℕ) → length (kep
 kept-at-most flags w n s = omega (arith, kept-fewer flags 0 (rowsIn w n s), length-rows w n s)
 
 -- the places of row i and of the row that it becomes lie within the buffer
-pub moving-room : (flags : List ℕ) (w n : ℕ) (s buf : List ℕ) (to i : ℕ) → w * n ≤ length s → i < n → Moving flags w n s buf to i
+pub moving-room : (K : ℕ → List Row) (w n : ℕ) (s buf : List ℕ) (to i : ℕ) → w * n ≤ length s → i < n → Moving K w n s buf to i
     → (w * to ≤ w * i) × (w * i + w ≤ length buf)
-moving-room flags w n s buf to i l h m = (mul-le-mul-left w (m .fewer), omega (arith, row-inside w i n (length s) h l))
+moving-room K w n s buf to i l h m = (mul-le-mul-left w (m .fewer), omega (arith, row-inside w i n (length s) h l))
+
+-- row i is still the one that it was
+pub moving-row : (K : ℕ → List Row) (w n : ℕ) (s buf : List ℕ) (to i : ℕ) → Moving K w n s buf to i → rowAt w i buf ≡ rowAt w i s
+unfolding rowAt
+moving-row K w n s buf to i m = row-same w i buf s (drop-later (w * to) (w * i) buf s (mul-le-mul-left w (m .fewer)) (m .rest))
+
+-- the place of the next row
+pub next-place : (w k : ℕ) → w * k + w ≡ w * (k + 1)
+next-place w k = rw (add-one, mul-suc)
 
 -- the freed part lies within the buffer
-pub closing-up : (flags : List ℕ) (w n : ℕ) (s : List ℕ) (r : ℕ) → 0 < n → r ≡ length (keptFrom flags 0 (rowsIn w n s))
-    → (r ≤ n) × (w * r ≤ w * n) × (w ≤ w * n)
-closing-up flags w n s r h e =
-    let few : r ≤ n = omega (arith, kept-at-most flags w n s) in
+pub freed-room : (w n r : ℕ) → 0 < n → r ≤ n → (w * r ≤ w * n) × (w ≤ w * n)
+freed-room w n r h g =
     let one : w * 1 ≤ w * n = mul-le-mul-left w h in
-    (few, mul-le-mul-left w few, omega arith)
+    (mul-le-mul-left w g, omega arith)
 
 -- the freed part, cleared
-pub freed-cleared : (w n r : ℕ) (kept : List Row) (s buf : List ℕ) → r ≡ length kept → r ≤ n → w * n ≤ length s
+freed-cleared : (w n r : ℕ) (kept : List Row) (s buf : List ℕ) → r ≡ length kept → r ≤ n → w * n ≤ length s
     → buf ≡ flatten kept ++ drop (w * r) s → length buf ≡ length s
     → putMid (w * r) (w * n - w * r) buf (replicate (length (part (w * r) (w * n - w * r) buf)) 0) ≡ layout w n kept s
 freed-cleared w n r kept s buf e g l f q =
@@ -207,6 +274,11 @@ freed-cleared w n r kept s buf e g l f q =
     let t : take (w * r) buf ≡ flatten kept = rw f (take-at (flatten kept) (drop (w * r) s) (w * r) front) in
     let d : drop (w * r) buf ≡ drop (w * r) s = rw f (drop-at (flatten kept) (drop (w * r) s) (w * r) front) in
     rw (size, t, post-is (w * r) (w * n) buf low, drop-later (w * r) (w * n) buf s low d, laid-fewer w n kept s (omega arith), ← e, append-assoc)
+
+pub freed : (w n r : ℕ) (buf : List ℕ) → r ≤ n → w * n ≤ length buf
+    → Freed w n r buf (putMid (w * r) (w * n - w * r) buf (replicate (length (part (w * r) (w * n - w * r) buf)) 0))
+freed w n r buf g l =
+    record { left = λ rs s f q. record { rows = f .rows; bytes = freed-cleared w n r rs s buf (f .rows) g (omega arith) (f .bytes) q } }
 
 -- ---- flags
 

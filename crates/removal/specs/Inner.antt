@@ -1,6 +1,6 @@
 -- What the contracts of inner functions need beyond the words of the papers: nobody has to believe it.
 -- Assumes nothing.
-use Prim.Native.Nat.{ℕ, _+_, _*_, _<_}
+use Prim.Native.Nat.{ℕ, _+_, _*_, _≤_, _<_}
 use mathlib.Core.Path.{_≡_}
 use mathlib.Core.Bool.{Bool, not}
 use mathlib.Core.List.{List, [], _∷_, _++_, flatten}
@@ -30,10 +30,16 @@ pub record Left (w n : ℕ) (rs : List Row) (s s′ : List ℕ) (n′ : ℕ) : T
   pub rows : n′ ≡ length rs
   pub bytes : s′ ≡ layout w n rs s
 
--- of n rows of width w in s, the r whose flag is not 0 have come to the front of s′, and the bytes from row r on are as they were
-abbrev pub InFront : ℕ → ℕ → List ℕ → List ℕ → List ℕ → ℕ → Type 0
-InFront w n flags s s′ r = s′ ≡ flatten (keptFrom flags 0 (rowsIn w n s)) ++ drop (w * r) s
+-- of n rows of width w in s the r rows rs have come to the front of s′, and the bytes from row r on are as they were
+pub record InFront (w n : ℕ) (rs : List Row) (s s′ : List ℕ) (r : ℕ) : Type 0 where
+  pub rows : r ≡ length rs
+  pub fewer : r ≤ n
+  pub bytes : s′ ≡ flatten rs ++ drop (w * r) s
 
--- the others are gone
+-- of n rows of width w in s those from row r on are freed in s′: the others are what is left, whatever buffer s₀ they come from
+pub record Freed (w n r : ℕ) (s s′ : List ℕ) : Type 0 where
+  pub left : (rs : List Row) (s₀ : List ℕ) → InFront w n rs s₀ s r → length s ≡ length s₀ → Left w n rs s₀ s′ r
+
+-- of n rows of width w in s those whose flag is not 0 are left in s′, r of them
 abbrev pub FlaggedLeft : ℕ → ℕ → List ℕ → List ℕ → List ℕ → ℕ → Type 0
 FlaggedLeft w n flags s s′ r = Left w n (keptFrom flags 0 (rowsIn w n s)) s s′ r
