@@ -40,27 +40,14 @@ fn from_newest(
     ensures { λ r. ⌜ (r ≡ true
         → Used low used entries (now (rows .entry)) (now (commits .entry)) 0 (now (uses .exit))) ⌝ }
 {
-    let none = entries as u16;
-    let mut heads = [none; 4096];
-    let mut nexts = [0u16; 1024];
-    if !orderly::commits_orderly(commits, entries, &mut heads, &mut nexts) {
-        return false;
-    }
     let end = used as u16;
     let mut firsts = [end; 4096];
     let mut follows = [0u16; 1024];
-    let entry = orderly::link_rows(
-        rows,
-        used,
-        commits,
-        entries,
-        &heads,
-        &nexts,
-        &mut firsts,
-        &mut follows,
-    );
+    if !orderly::link_all(rows, used, commits, entries, &mut firsts, &mut follows) {
+        return false;
+    }
     let open = firsts[entries] as usize;
-    if !orderly::open_plain_from(rows, used, entries, &entry, open) {
+    if !orderly::open_plain_from(rows, used, &follows, open) {
         return false;
     }
     let mut seen = [0u16; 1024];

@@ -5,11 +5,10 @@ use native.Mathlib.Nat.{add-zero}
 use mathlib.Core.Path.{_≡_, refl, sym, ap, _∙_}
 use mathlib.Core.Bool.{Bool, true, false}
 use mathlib.Core.List.{List}
-use lib.ListN.{length, getD, set}
-use lib.Seq.{getD-set-same, getD-set-other}
+use lib.ListN.{getD}
 use lib.Dec.{eqb, ltb}
 use native.Mathlib.Omega.{arith}
-use native.Mathlib.Decide.{decLt, ℕ-discrete}
+use native.Mathlib.Decide.{decLt}
 use borrow.Author.Tests.{eqb-true, eqb-false, eq-eqb, lt-ltb, ltb-true}
 use Rattle.spec.specs.Choice.{if_then_else_}
 use Rattle.spec.specs.Rows.{rowAt, rowsIn, rowsFrom, tagOf, commitTag}
@@ -18,7 +17,7 @@ use Rattle.spec.specs.Share.{any}
 use Rattle.search.specs.Inner.{Next}
 use Rattle.search.proofs.Folds.{to-start}
 use Rattle.places.specs.Inner.{place}
-use Rattle.orderly.specs.Inner.{tagPlace, entryOf, rowEntry, Linked, RowEntries, Alike}
+use Rattle.orderly.specs.Inner.{tagPlace, entryOf, rowEntry, Linked}
 use Rattle.spec.specs.Orderly.{isCommitOf, orderlyCommits}
 use Rattle.orderly.proofs.Nexts.{next-none, next-here, next-past, next-one}
 use Rattle.orderly.proofs.Order.{both-ways, some-from, from-at, distinct}
@@ -92,32 +91,3 @@ module _ (tag m : ℕ) (c : List ℕ) where
 
       back : ltb r m ≡ true → any (isCommitOf tag) (rowsFrom 8 m i c) ≡ true
       back e = from-at (isCommitOf tag) 8 m c i r (p .start) (ltb-true r m e) (eq-eqb (commitTag (rowAt 8 r c)) tag (p .hit (ltb-true r m e)))
-
--- one value more is stored, from the last to the first
-pub stored-less : (F : ℕ → ℕ) (s : List ℕ) (n i v : ℕ) → i < length s → ((k : ℕ) → i < k → k < n → getD s k 0 ≡ F k) → v ≡ F i
-    → (k : ℕ) → i ≤ k → k < n → getD (set s i v) k 0 ≡ F k
-stored-less F s n i v h all e k a b = go (ℕ-discrete k i)
-  where
-    go : Dec (k ≡ i) → getD (set s i v) k 0 ≡ F k
-    go (yes q) = rw (q, getD-set-same s i v 0 h) e
-    go (no q) = rw (getD-set-other s i k v 0 q) (all k (omega (arith, q)) b)
-
--- ---- the committed row of each data row, as a table
-
-module _ (n m : ℕ) (s c entry : List ℕ) where
-  pub entries-alike : m ≤ 1024 → RowEntries n m s c entry → Alike n s entry
-  entries-alike b t =
-      record {
-        size = t .size;
-        below = λ k h. omega (arith, t .each k h, entry-next (tagOf (rowAt 24 k s)) m c .end);
-        each = λ i k h l e. t .each i h ∙ ap (λ (tag : ℕ). entryOf tag (rowsIn 8 m c)) e ∙ sym (t .each k l);
-      }
-
-  pub entries-open : (r : ℕ) → RowEntries n m s c entry → Next (λ k. rowEntry m c s k ≡ m) 0 n r → Next (λ k. getD entry k 0 ≡ m) 0 n r
-  entries-open r t p =
-      record {
-        start = p .start;
-        end = p .end;
-        misses = λ k a b f. p .misses k a b (sym (t .each k (omega (arith, p .end))) ∙ f);
-        hit = λ l. t .each r l ∙ p .hit l;
-      }

@@ -3,4 +3,7 @@ pub mod Order
 pub mod Chains
 pub mod Walks
 pub mod Entries
+pub mod Rising
+pub mod InOrder
 pub mod Open
+pub mod Flagged

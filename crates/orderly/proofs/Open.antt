@@ -20,27 +20,27 @@ use Rattle.orderly.proofs.Walks.{own-miss}
 use Rattle.orderly.proofs.Order.{displain, plain-large, plain-twice}
 
 -- from row i on the rows that are not committed are plain, and linked
-pub record Tested (n m : ℕ) (s entry heads nexts : List ℕ) (i : ℕ) : Type 0 where
+pub record Tested (n : ℕ) (s flags heads nexts : List ℕ) (i : ℕ) : Type 0 where
   pub end : i ≤ n
-  pub linked : Linked (openPlace m entry s) n i heads nexts
-  pub plain : (k : ℕ) → i ≤ k → k < n → getD entry k 0 ≡ m → Sole n s k
+  pub linked : Linked (openPlace flags s) n i heads nexts
+  pub plain : (k : ℕ) → i ≤ k → k < n → getD flags k 0 ≡ 1 → Sole n s k
 
 -- row k is not committed; its tag, its cell and its place are these
-pub record OpenRow (n m : ℕ) (s entry : List ℕ) (k tag cell x : ℕ) : Type 0 where
-  pub alike : Alike n s entry
-  pub uncommitted : getD entry k 0 ≡ m
+pub record OpenRow (n : ℕ) (s flags : List ℕ) (k tag cell x : ℕ) : Type 0 where
+  pub alike : Alike n s flags
+  pub uncommitted : getD flags k 0 ≡ 1
   pub tag-is : tag ≡ tagOf (rowAt 24 k s)
   pub cell-is : cell ≡ cellOf (rowAt 24 k s)
   pub place-is : x ≡ pairPlace (place tag) cell
   pub small : x < 4096
 
-module _ (n m : ℕ) (s entry : List ℕ) where
-  pub tested-none : (nexts : List ℕ) → length nexts ≡ 1024 → Tested n m s entry (replicate 4096 n) nexts n
-  tested-none nexts e = record { end = omega arith; linked = linked-none (openPlace m entry s) n nexts e; plain = λ k a b. absurd (omega arith) }
+module _ (n : ℕ) (s flags : List ℕ) where
+  pub tested-none : (nexts : List ℕ) → length nexts ≡ 1024 → Tested n s flags (replicate 4096 n) nexts n
+  tested-none nexts e = record { end = omega arith; linked = linked-none (openPlace flags s) n nexts e; plain = λ k a b. absurd (omega arith) }
 
   -- all are tested from the first one on
-  pub tested-all : (heads nexts : List ℕ) (i first : ℕ) → i ≤ first → Tested n m s entry heads nexts i → Next (λ k. getD entry k 0 ≡ m) 0 n first
-      → (k : ℕ) → k < n → getD entry k 0 ≡ m → Sole n s k
+  pub tested-all : (heads nexts : List ℕ) (i first : ℕ) → i ≤ first → Tested n s flags heads nexts i → Next (λ k. getD flags k 0 ≡ 1) 0 n first
+      → (k : ℕ) → k < n → getD flags k 0 ≡ 1 → Sole n s k
   tested-all heads nexts i first l t p k h e = go (decLt k first)
     where
       go : Dec (k < first) → Sole n s k
@@ -48,14 +48,14 @@ module _ (n m : ℕ) (s entry : List ℕ) where
       go (no b) = t .plain k (omega (arith, b)) h e
 
   -- the place of a row that is not committed
-  open-place : (k : ℕ) → getD entry k 0 ≡ m → openPlace m entry s k ≡ pairPlace (place (tagOf (rowAt 24 k s))) (cellOf (rowAt 24 k s))
-  open-place k e = rw (eq-eqb (getD entry k 0) m e)
+  open-place : (k : ℕ) → getD flags k 0 ≡ 1 → openPlace flags s k ≡ pairPlace (place (tagOf (rowAt 24 k s))) (cellOf (rowAt 24 k s))
+  open-place k e = rw (eq-eqb (getD flags k 0) 1 e)
 
-  no-place : (k : ℕ) → (getD entry k 0 ≡ m → ⊥) → 4096 ≤ openPlace m entry s k
-  no-place k ne = rw (ne-eqb (getD entry k 0) m ne) (omega arith)
+  no-place : (k : ℕ) → (getD flags k 0 ≡ 1 → ⊥) → 4096 ≤ openPlace flags s k
+  no-place k ne = rw (ne-eqb (getD flags k 0) 1 ne) (omega arith)
 
-  module _ (heads nexts : List ℕ) (k : ℕ) (t : Tested n m s entry heads nexts (k + 1)) where
-    plain-too : (getD entry k 0 ≡ m → Sole n s k) → (j : ℕ) → k ≤ j → j < n → getD entry j 0 ≡ m → Sole n s j
+  module _ (heads nexts : List ℕ) (k : ℕ) (t : Tested n s flags heads nexts (k + 1)) where
+    plain-too : (getD flags k 0 ≡ 1 → Sole n s k) → (j : ℕ) → k ≤ j → j < n → getD flags j 0 ≡ 1 → Sole n s j
     plain-too p j a b e = go (ℕ-discrete j k)
       where
         go : Dec (j ≡ k) → Sole n s j
@@ -63,34 +63,34 @@ module _ (n m : ℕ) (s entry : List ℕ) where
         go (no q) = t .plain j (omega (arith, q)) b e
 
     -- a committed row
-    pub tested-past : (getD entry k 0 ≡ m → ⊥) → Tested n m s entry heads nexts k
+    pub tested-past : (getD flags k 0 ≡ 1 → ⊥) → Tested n s flags heads nexts k
     tested-past ne =
         record {
           end = omega (arith, t .end);
-          linked = linked-less (openPlace m entry s) n heads nexts k (no-place k ne) (t .linked);
+          linked = linked-less (openPlace flags s) n heads nexts k (no-place k ne) (t .linked);
           plain = plain-too (λ e. absurd (ne e));
         }
 
-    pub tested-more : (heads′ nexts′ : List ℕ) → Linked (openPlace m entry s) n k heads′ nexts′ → Sole n s k → Tested n m s entry heads′ nexts′ k
+    pub tested-more : (heads′ nexts′ : List ℕ) → Linked (openPlace flags s) n k heads′ nexts′ → Sole n s k → Tested n s flags heads′ nexts′ k
     tested-more heads′ nexts′ l p = record { end = omega (arith, t .end); linked = l; plain = plain-too (λ e. p) }
 
     pub tested-large : 1024 ≤ cellOf (rowAt 24 k s) → orderlyRows (rowsIn 24 n s) ≡ false
     tested-large b = displain n s k (omega (arith, t .end)) (plain-large n s k (omega (arith, t .end)) b)
 
-    module _ (tag cell x : ℕ) (row : OpenRow n m s entry k tag cell x) where
-      pub open-at : openPlace m entry s k ≡ x
+    module _ (tag cell x : ℕ) (row : OpenRow n s flags k tag cell x) where
+      pub open-at : openPlace flags s k ≡ x
       open-at = open-place k (row .uncommitted) ∙ rw (← row .tag-is, ← row .cell-is) (sym (row .place-is))
 
-      meets : (j : ℕ) → j < n → (openPlace m entry s j ≡ x → ⊥) → tagOf (rowAt 24 j s) ≡ tag → cellOf (rowAt 24 j s) ≡ cell → ⊥
+      meets : (j : ℕ) → j < n → (openPlace flags s j ≡ x → ⊥) → tagOf (rowAt 24 j s) ≡ tag → cellOf (rowAt 24 j s) ≡ cell → ⊥
       meets j l ne a b =
           ne (open-place j (row .alike .each j k l (omega (arith, t .end)) (a ∙ row .tag-is) ∙ row .uncommitted) ∙ rw (a, b) (sym (row .place-is)))
 
       pub open-walk : PairWalk n s nexts tag cell (getD heads x 0)
       open-walk =
           record {
-            key = openPlace m entry s;
+            key = openPlace flags s;
             at = x;
-            chain = chain-start (openPlace m entry s) n nexts heads x (k + 1) (row .small) (t .linked);
+            chain = chain-start (openPlace flags s) n nexts heads x (k + 1) (row .small) (t .linked);
             meets = meets;
           }
 
@@ -99,7 +99,7 @@ module _ (n m : ℕ) (s entry : List ℕ) where
         twice : wrote (rowsFrom 24 n (k + 1) s) (tagOf (rowAt 24 k s)) (cellOf (rowAt 24 k s)) ≡ b
         twice =
             rw (← row .tag-is, ← row .cell-is)
-            (head-skip (openPlace m entry s) n (λ i. wrote (rowsFrom 24 n i s) tag cell) heads nexts x (k + 1) (row .small) (t .linked)
+            (head-skip (openPlace flags s) n (λ i. wrote (rowsFrom 24 n i s) tag cell) heads nexts x (k + 1) (row .small) (t .linked)
             (λ j l ne. own-miss tag cell n j s l (meets j l ne))
             ∙ sym again)
 

@@ -1,12 +1,12 @@
 -- What the contracts of inner functions need beyond the words of the papers: nobody has to believe it.
 -- Assumes nothing.
-use Prim.Native.Nat.{ℕ, suc, _+_, _*_, _%_, _≤_, _<_}
+use Prim.Native.Nat.{ℕ, suc, _+_, _*_, _-_, _%_, _≤_, _<_}
 use mathlib.Core.Path.{_≡_}
 use mathlib.Core.List.{List, [], _∷_}
 use lib.ListN.{length, getD}
 use lib.Dec.{eqb}
 use Rattle.spec.specs.Choice.{if_then_else_}
-use Rattle.spec.specs.Rows.{dataWidth, commitWidth, dataRowsIn, commitRowsIn, Row, rowAt, tagOf, cellOf, commitTag, rowsFrom}
+use Rattle.spec.specs.Rows.{dataWidth, commitWidth, dataRowsIn, commitRowsIn, Row, rowAt, tagOf, cellOf, commitNumber, commitTag, rowsFrom}
 use Rattle.search.specs.Inner.{Next}
 use Rattle.places.specs.Inner.{place}
 use mathlib.Core.Bool.{Bool, true, false}
@@ -53,24 +53,36 @@ rowEntry m c s k = entryOf (tagOf (rowAt dataWidth k s)) (commitRowsIn m c)
 abbrev pub RowsLinked : ℕ → ℕ → List ℕ → List ℕ → List ℕ → List ℕ → Type 0
 RowsLinked n m s c firsts follows = Linked (rowEntry m c s) n 0 firsts follows
 
+-- ---- committed rows whose tags rise with their numbers
+
+-- committed row k + 1 of c has a larger number and a larger tag than row k
+pub record Rises (c : List ℕ) (k : ℕ) : Type 0 where
+  pub number : commitNumber (rowAt commitWidth k c) < commitNumber (rowAt commitWidth (k + 1) c)
+  pub tag : commitTag (rowAt commitWidth k c) < commitTag (rowAt commitWidth (k + 1) c)
+
+-- so it is of each of m committed rows and the next
+abbrev pub Rising : ℕ → List ℕ → Type 0
+Rising m c = (k : ℕ) → k + 1 < m → Rises c k
+
+-- the committed row before row `at` has that tag
+pub record IsBelow (c : List ℕ) (at tag : ℕ) : Type 0 where
+  pub some : 0 < at
+  pub tag-is : commitTag (rowAt commitWidth (at - 1) c) ≡ tag
+
+-- ---- rows that are not committed
+
 -- the place of a tag and a cell together, by the tag's place
 unfoldable pub pairPlace : ℕ → ℕ → ℕ
 pairPlace x cell = (x + cell * 611) % 4096
 
--- data row k of s by its tag and cell where its transaction is not committed; the others have no place
-abbrev pub openPlace : ℕ → List ℕ → List ℕ → ℕ → ℕ
-openPlace m entry s k = if eqb (getD entry k 0) m then pairPlace (place (tagOf (rowAt dataWidth k s))) (cellOf (rowAt dataWidth k s)) else 4096
+-- data row k of s by its tag and cell where its transaction is not committed, which flags say; the others have no place
+abbrev pub openPlace : List ℕ → List ℕ → ℕ → ℕ
+openPlace flags s k = if eqb (getD flags k 0) 1 then pairPlace (place (tagOf (rowAt dataWidth k s))) (cellOf (rowAt dataWidth k s)) else 4096
 
--- the committed row of each of n data rows
-pub record RowEntries (n m : ℕ) (s c entry : List ℕ) : Type 0 where
-  pub size : length entry ≡ 1024
-  pub each : (k : ℕ) → k < n → getD entry k 0 ≡ rowEntry m c s k
-
--- data rows of one tag have the same committed row, by its number, which takes 16 bits
-pub record Alike (n : ℕ) (s entry : List ℕ) : Type 0 where
-  pub size : length entry ≡ 1024
-  pub below : (k : ℕ) → k < n → getD entry k 0 < 65536
-  pub each : (i k : ℕ) → i < n → k < n → tagOf (rowAt dataWidth i s) ≡ tagOf (rowAt dataWidth k s) → getD entry i 0 ≡ getD entry k 0
+-- data rows of one tag have the same flag
+pub record Alike (n : ℕ) (s flags : List ℕ) : Type 0 where
+  pub size : length flags ≡ 1024
+  pub each : (i k : ℕ) → i < n → k < n → tagOf (rowAt dataWidth i s) ≡ tagOf (rowAt dataWidth k s) → getD flags i 0 ≡ getD flags k 0
 
 -- A walk over a chain that meets every row of that tag and cell from row i on.
 pub record PairWalk (n : ℕ) (s nexts : List ℕ) (tag cell i : ℕ) : Type 0 where
@@ -86,7 +98,35 @@ pub record Sole (n : ℕ) (s : List ℕ) (k : ℕ) : Type 0 where
   pub small : cellOf (rowAt dataWidth k s) < 1024
   pub alone : wrote (rowsFrom dataWidth n (k + 1) s) (tagOf (rowAt dataWidth k s)) (cellOf (rowAt dataWidth k s)) ≡ false
 
--- What the test of the rows that are not committed says; entry has m for them. They are plain, or not all rows of s are orderly.
-pub record OpenTest (n m : ℕ) (s entry : List ℕ) (r : Bool) : Type 0 where
-  pub plain : r ≡ true → (k : ℕ) → k < n → getD entry k 0 ≡ m → Sole n s k
+-- What the test of the rows that are not committed says, which are those of place x. They are plain, or not all rows of s are orderly.
+pub record OpenTest (key : ℕ → ℕ) (x n : ℕ) (s : List ℕ) (r : Bool) : Type 0 where
+  pub plain : r ≡ true → (k : ℕ) → k < n → key k ≡ x → Sole n s k
   pub not-plain : r ≡ false → orderlyRows (dataRowsIn n s) ≡ false
+
+-- ---- the rows of one place, walked from the first one on
+
+-- the rows of place x, of n, from the first of them on
+pub record Walk (key : ℕ → ℕ) (x n : ℕ) (follows : List ℕ) (first : ℕ) : Type 0 where
+  pub start : Next (λ k. key k ≡ x) 0 n first
+  pub chain : Chain key n follows x first
+
+-- the same, where the rows of one tag have one place
+pub record TagWalk (key : ℕ → ℕ) (x n : ℕ) (s follows : List ℕ) (first : ℕ) : Type 0 where
+  pub walk : Walk key x n follows first
+  pub alike : (i k : ℕ) → i < n → k < n → tagOf (rowAt dataWidth i s) ≡ tagOf (rowAt dataWidth k s) → key i ≡ key k
+
+-- by some keys
+pub record SomeWalk (n : ℕ) (follows : List ℕ) (first : ℕ) : Type 0 where
+  pub key : ℕ → ℕ
+  pub at : ℕ
+  pub walk : Walk key at n follows first
+
+pub record SomeTagWalk (n : ℕ) (s follows : List ℕ) (first : ℕ) : Type 0 where
+  pub key : ℕ → ℕ
+  pub at : ℕ
+  pub walk : TagWalk key at n s follows first
+
+-- flags that are 1 for the rows of place x and 0 for the others
+pub record PlaceFlags (key : ℕ → ℕ) (x n : ℕ) (flags : List ℕ) : Type 0 where
+  pub size : length flags ≡ 1024
+  pub each : (k : ℕ) → k < n → getD flags k 0 ≡ (if eqb (key k) x then 1 else 0)

@@ -17,7 +17,7 @@ use Rattle.spec.specs.Share.{any}
 use Rattle.search.proofs.Folds.{if-same, if-itself, any-step, any-end, any-at, commit-none, tag-yes, tag-no, to-start}
 use Rattle.removal.specs.Inner.{Flags}
 use Rattle.spec.specs.Trim.{overtaken, stays, inUse, trimmedRows}
-use Rattle.orderly.specs.Inner.{rowEntry, RowEntries, Sole}
+use Rattle.orderly.specs.Inner.{rowEntry, Sole}
 use Rattle.spec.specs.Orderly.{isCommitOf, orderlyCommits, orderlyRows}
 use Rattle.spec.specs.Marked.{marksCell, marked, Marks}
 use Rattle.serving.specs.Inner.{Judged, Used, SoFar}
@@ -156,10 +156,8 @@ module _ (low n m : ℕ) (s c : List ℕ) where
   used-end uses u = record { size = u .size; each = λ k h. u .each k (omega arith) h }
 
   -- every row is plain: those of committed transactions, and the others
-  pub all-plain : (seen entry : List ℕ) → SoFar n m s c 0 seen → RowEntries n m s c entry →
-      ((k : ℕ) → k < n → getD entry k 0 ≡ m → Sole n s k)
-      → orderlyRows (rowsIn 24 n s) ≡ true
-  all-plain seen entry d t rest =
+  pub all-plain : (seen : List ℕ) → SoFar n m s c 0 seen → ((k : ℕ) → k < n → rowEntry m c s k ≡ m → Sole n s k) → orderlyRows (rowsIn 24 n s) ≡ true
+  all-plain seen d rest =
       rw (rows-start 24 n s)
       (to-start (λ i. orderlyRows (rowsFrom 24 n i s) ≡ true) n (plain-end n s) (λ i h e. plain-more n s i h (plain i h .small) (plain i h .alone) e))
     where
@@ -168,7 +166,7 @@ module _ (low n m : ℕ) (s c : List ℕ) where
         where
           go : Dec (rowEntry m c s k < m) → Sole n s k
           go (yes l) = d .plain k h (omega arith) l
-          go (no l) = rest k h (omega (arith, t .each k h, l, entry-next (tagOf (rowAt 24 k s)) m c .end))
+          go (no l) = rest k h (omega (arith, l, entry-next (tagOf (rowAt 24 k s)) m c .end))
 
   module _ (j : ℕ) (h : j < m) where
     abbrev own : ℕ

@@ -1,35 +1,20 @@
--- The rows from i on have their committed rows in `entry` and are linked by them, and `at` is the committed row of the tag `last`.
+-- The rows from i on are linked by their committed rows, and `at` is the committed row of the tag `last`.
 use Prim.Native.Nat.{ℕ, _+_, _-_, _≤_, _<_}
 use mathlib.Core.Path.{_≡_, sym, ap, _∙_}
-use lib.ListN.{length, getD, length-set}
-use borrow.Author.Needs.{needs}
 use native.Mathlib.Omega.{arith}
 use Rattle.spec.specs.Rows.{rowsIn}
 use Rattle.orderly.specs.Inner.{entryOf, rowEntry, Linked}
-use Rattle.orderly.proofs.Chains.{linked-none}
-use Rattle.orderly.proofs.Entries.{entry-next, stored-less}
+use Rattle.orderly.proofs.Entries.{entry-next}
+use borrow.Author.Needs.{needs}
 use Rattle.orderly.proofs.link_rows.Statement.{statement}
 use Rattle.orderly.proofs.link_rows.Tie as tie
 
 abbrev Inv-loop : tie.InvT-loop
-Inv-loop rows used commits entries heads nexts firsts₀ follows₀ entry₀ last₀ at₀ i₀ firsts follows entry last at i =
-    (i ≤ used) × (length entry ≡ 1024) × ((k : ℕ) → i ≤ k → k < used → getD entry k 0 ≡ rowEntry entries commits rows k)
-    × Linked (rowEntry entries commits rows) used i firsts follows × (at ≡ entryOf last (rowsIn 8 entries commits))
+Inv-loop rows used from commits entries heads nexts firsts₀ follows₀ last₀ at₀ i₀ firsts follows last at i =
+    (i ≤ used) × Linked (rowEntry entries commits rows) used i firsts follows × (at ≡ entryOf last (rowsIn 8 entries commits))
 
 abbrev μ-loop : tie.MeasureT-loop
-μ-loop rows used commits entries heads nexts firsts₀ follows₀ entry₀ last₀ at₀ i₀ firsts follows entry last at i = i
-
-loop-holds : tie.Need-loop-holds Inv-loop μ-loop
-loop-holds c =
-    let start = c .before .before .before in
-    let a = start .args in
-    let pre = start .pre .1 .1 .1 .1 .1 in (
-      omega arith,
-      search needs,
-      λ k g h. absurd (omega arith),
-      rw (pre .0) (linked-none (rowEntry (a .entries) (a .commits .now) (a .rows .now)) (a .used) (a .follows .now) (pre .1)),
-      c .entry-of .ensures,
-    )
+μ-loop rows used from commits entries heads nexts firsts₀ follows₀ last₀ at₀ i₀ firsts follows last at i = i
 
 -- the row is in use
 inside : (c : tie.In-loop Inv-loop μ-loop) → c .before .loop .i - 1 < c .before .before .before .before .before .args .used
@@ -42,15 +27,18 @@ small c =
     let a = c .before .before .before .before .before .before .before .args in
     rw (c .entry-again .ensures) (entry-next (c .before .tag-at .result) (a .entries) (a .commits .now) .end)
 
-cast-entry : tie.Need-cast-entry Inv-loop μ-loop
-cast-entry c = omega (arith, small c)
+loop-holds : tie.Need-loop-holds Inv-loop μ-loop
+loop-holds c = (c .before .before .before .pre .1 .1 .0, c .before .before .before .pre .1 .1 .1 .1 .1 .1, c .entry-of .ensures)
+
+tag-at-requires : tie.Need-tag-at-requires Inv-loop μ-loop
+tag-at-requires c κs = omega (arith, inside c)
 
 link-requires : tie.Need-link-requires Inv-loop μ-loop
 link-requires c κs =
     let start = c .before .before .before .before .before .before .before .before .before in
     let loop = c .before .before .before .before .before .loop in (
-      omega (arith, small (c .before .before), start .pre .1 .1 .1 .0),
-      (omega (arith, inside (c .before .before .before .before), start .pre .1 .0), (loop .inv .3 .size, loop .inv .3 .room)),
+      omega (arith, small (c .before .before), start .pre .1 .1 .1 .1 .0),
+      (omega (arith, inside (c .before .before .before .before), start .pre .1 .0), (loop .inv .1 .size, loop .inv .1 .room)),
     )
 
 loop-again : tie.Need-loop-again Inv-loop μ-loop
@@ -63,10 +51,7 @@ loop-again c =
     let right : again .result ≡ rowEntry (a .entries) (a .commits .now) (a .rows .now) (loop .i - 1) =
     again .ensures ∙ ap (λ (t : ℕ). entryOf t (rowsIn 8 (a .entries) (a .commits .now))) (c .before .before .before .before .tag-at .ensures) in (
       omega (arith, loop .inv .0),
-      simp length-set (loop .inv .1),
-      stored-less (rowEntry (a .entries) (a .commits .now) (a .rows .now)) (loop .entry) (a .used) (loop .i - 1) (again .result)
-          (omega (arith, h, loop .inv .1)) (λ k g. loop .inv .2 k (omega arith)) right,
-      c .link .ensures .one (rowEntry (a .entries) (a .commits .now) (a .rows .now)) (a .used) h (sym right) (rw z (loop .inv .3)),
+      c .link .ensures .one (rowEntry (a .entries) (a .commits .now) (a .rows .now)) (a .used) h (sym right) (rw z (loop .inv .1)),
       again .ensures,
     )
 
@@ -74,11 +59,11 @@ returns : tie.Need-returns Inv-loop μ-loop
 returns c =
     let loop = c .before .loop in
     let z : loop .i ≡ 0 = omega (arith, c .loop-test .left) in
-    (record { size = loop .inv .1; each = λ k. loop .inv .2 k (omega arith) }, rw (← z) (loop .inv .3))
+    rw (← z) (loop .inv .1)
 
 pub link-rows-spec : {M : Type 1} → statement M
 link-rows-spec =
     tie.close
     (tie.spec
-    Inv-loop μ-loop (λ c κs. search needs) loop-holds (λ c. search needs) (λ c κs. omega (arith, inside c)) (λ c κs. search needs) cast-entry
-    (λ c. search needs) (λ c. search needs) link-requires (λ c. search needs) loop-again returns)
+    Inv-loop μ-loop (λ c κs. search needs) loop-holds (λ c. search needs) tag-at-requires (λ c κs. search needs) link-requires (λ c. search needs)
+    loop-again returns)

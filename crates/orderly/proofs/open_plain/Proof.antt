@@ -13,28 +13,23 @@ use Rattle.orderly.proofs.open_plain.Statement.{statement}
 use Rattle.orderly.proofs.open_plain.Tie as tie
 
 abbrev Inv-loop : tie.InvT-loop
-Inv-loop rows used entries entry first none heads₀ nexts₀ i₀ heads nexts i = Tested used entries rows entry heads nexts i
+Inv-loop rows used flags first none heads₀ nexts₀ i₀ heads nexts i = Tested used rows flags heads nexts i
 
 abbrev μ-loop : tie.MeasureT-loop
-μ-loop rows used entries entry first none heads₀ nexts₀ i₀ heads nexts i = i
+μ-loop rows used flags first none heads₀ nexts₀ i₀ heads nexts i = i
 
 loop-holds : tie.Need-loop-holds Inv-loop μ-loop
 loop-holds c =
     let a = c .before .args in
-    tested-none (a .used) (a .entries) (a .rows .now) (a .entry .now) _ (search needs)
+    tested-none (a .used) (a .rows .now) (a .flags .now) _ (search needs)
 
 -- the rows behind row k
 tested : (c : tie.In-loop Inv-loop μ-loop)
-    → Tested (c .before .before .before .args .used) (c .before .before .before .args .entries) (c .before .before .before .args .rows .now)
-    (c .before .before .before .args .entry .now) (c .before .loop .heads) (c .before .loop .nexts) (c .before .loop .i - 1 + 1)
+    → Tested (c .before .before .before .args .used) (c .before .before .before .args .rows .now) (c .before .before .before .args .flags .now)
+    (c .before .loop .heads) (c .before .loop .nexts) (c .before .loop .i - 1 + 1)
 tested c =
     let z : c .before .loop .i - 1 + 1 ≡ c .before .loop .i = omega (arith, c .loop-test .taken) in
     rw z (c .before .loop .inv)
-
-cast-at : tie.Need-cast-at Inv-loop μ-loop
-cast-at c =
-    let loop = c .before .before .loop in
-    omega (arith, c .before .before .before .before .pre .1 .1 .0 .below (loop .i - 1) (omega (arith, loop .inv .end, c .before .loop-test .taken)))
 
 returns : tie.Need-returns Inv-loop μ-loop
 returns c =
@@ -43,16 +38,15 @@ returns c =
     record {
       plain = λ e. absurd (differ e refl);
       not-plain = λ e.
-          tested-large (a .used) (a .entries) (a .rows .now) (a .entry .now) (loop .heads) (loop .nexts) (loop .i - 1)
+          tested-large (a .used) (a .rows .now) (a .flags .now) (loop .heads) (loop .nexts) (loop .i - 1)
           (tested (c .before .before .before .before)) (omega (arith, c .before .cell-at .ensures, c .if2 .taken));
     }
 
 -- row k, which is not committed
 row : (c : tie.After-pair-place Inv-loop μ-loop)
     → OpenRow (c .before .before .before .before .before .before .before .before .before .before .args .used)
-    (c .before .before .before .before .before .before .before .before .before .before .args .entries)
     (c .before .before .before .before .before .before .before .before .before .before .args .rows .now)
-    (c .before .before .before .before .before .before .before .before .before .before .args .entry .now)
+    (c .before .before .before .before .before .before .before .before .before .before .args .flags .now)
     (c .before .before .before .before .before .before .before .before .loop .i - 1)
     (c .before .before .tag-at .result) (c .before .before .before .before .cell-at .result) (c .pair-place .result)
 row c =
@@ -76,7 +70,7 @@ walk : (c : tie.After-pair-place Inv-loop μ-loop)
 walk c =
     let a = c .before .before .before .before .before .before .before .before .before .before .args in
     let loop = c .before .before .before .before .before .before .before .before .loop in
-    open-walk (a .used) (a .entries) (a .rows .now) (a .entry .now) (loop .heads) (loop .nexts) (loop .i - 1)
+    open-walk (a .used) (a .rows .now) (a .flags .now) (loop .heads) (loop .nexts) (loop .i - 1)
     (tested (c .before .before .before .before .before .before .before))
     (c .before .before .tag-at .result) (c .before .before .before .before .cell-at .result) (c .pair-place .result) (row c)
 
@@ -98,7 +92,7 @@ returns-2 c =
     record {
       plain = λ e. absurd (differ e refl);
       not-plain = λ e.
-          tested-twice (a .used) (a .entries) (a .rows .now) (a .entry .now) (loop .heads) (loop .nexts) (loop .i - 1) t
+          tested-twice (a .used) (a .rows .now) (a .flags .now) (loop .heads) (loop .nexts) (loop .i - 1) t
           (pair .before .before .tag-at .result) (pair .before .before .before .before .cell-at .result) (pair .pair-place .result) (row pair)
           (c .before .own-chained .result) (c .before .own-chained .ensures) (c .if3 .taken);
     }
@@ -121,18 +115,18 @@ loop-again c =
     let cell = pair .before .before .before .before .cell-at .result in
     let x = pair .pair-place .result in
     let t = tested inside in
-    tested-more (a .used) (a .entries) (a .rows .now) (a .entry .now) (loop .heads) (loop .nexts) (loop .i - 1) t (c .link .last .0)
+    tested-more (a .used) (a .rows .now) (a .flags .now) (loop .heads) (loop .nexts) (loop .i - 1) t (c .link .last .0)
     (c .link .last .1 .0)
-    (c .link .ensures .one (openPlace (a .entries) (a .entry .now) (a .rows .now)) (a .used) (omega (arith, t .end))
-    (open-at (a .used) (a .entries) (a .rows .now) (a .entry .now) (loop .heads) (loop .nexts) (loop .i - 1) t tag cell x (row pair)) (t .linked))
-    (open-alone (a .used) (a .entries) (a .rows .now) (a .entry .now) (loop .heads) (loop .nexts) (loop .i - 1) t tag cell x (row pair)
+    (c .link .ensures .one (openPlace (a .flags .now) (a .rows .now)) (a .used) (omega (arith, t .end))
+    (open-at (a .used) (a .rows .now) (a .flags .now) (loop .heads) (loop .nexts) (loop .i - 1) t tag cell x (row pair)) (t .linked))
+    (open-alone (a .used) (a .rows .now) (a .flags .now) (loop .heads) (loop .nexts) (loop .i - 1) t tag cell x (row pair)
     (own .result) (own .ensures) (pair .before .before .before .if2 .left) (c .before .before .before .if3 .left))
 
 loop-again-2 : tie.Need-loop-again-2 Inv-loop μ-loop
 loop-again-2 c =
     let a = c .before .before .before .before .before .args in
     let loop = c .before .before .before .loop in
-    tested-past (a .used) (a .entries) (a .rows .now) (a .entry .now) (loop .heads) (loop .nexts) (loop .i - 1) (tested (c .before .before))
+    tested-past (a .used) (a .rows .now) (a .flags .now) (loop .heads) (loop .nexts) (loop .i - 1) (tested (c .before .before))
     (c .if1 .left)
 
 returns-3 : tie.Need-returns-3 Inv-loop μ-loop
@@ -142,7 +136,7 @@ returns-3 c =
     let loop = c .before .loop in
     record {
       plain = λ e.
-          tested-all (a .used) (a .entries) (a .rows .now) (a .entry .now) (loop .heads) (loop .nexts) (loop .i) (a .first)
+          tested-all (a .used) (a .rows .now) (a .flags .now) (loop .heads) (loop .nexts) (loop .i) (a .first)
           (c .loop-test .left) (loop .inv)
           (start .pre .1 .1 .1);
       not-plain = λ e. absurd (differ refl e);
@@ -151,7 +145,7 @@ returns-3 c =
 pub open-plain-spec : {M : Type 1} → statement M
 open-plain-spec =
     tie.close
-    (tie.spec Inv-loop μ-loop (λ c. search needs) loop-holds (λ c. search needs) (λ c. search needs) (λ c. search needs) cast-at
+    (tie.spec Inv-loop μ-loop (λ c. search needs) loop-holds (λ c. search needs) (λ c. search needs)
     (λ c κs. search needs) returns (λ c κs. search needs) (λ c κs. search needs) (λ c κs. c .place-of .ensures .1) (λ c. search needs)
     (λ c. search needs)
     cast-own-chained own-chained-requires returns-2 link-requires (λ c. search needs) loop-again (λ c. search needs) loop-again-2 returns-3)
