@@ -177,7 +177,7 @@ module _ (low n m : ℕ) (s c : List ℕ) where
     served-step x = any-step (marksCell low (rowsIn 24 n s) x) 8 m j c h
 
     module _ (marks₀ : List ℕ) (g : Marks low n m s c (j + 1) marks₀) where
-      unmarked : (x : ℕ) → x < 1024 → ltb 0 (getD marks₀ x 0) ≡ ltb (j + 1) (getD marks₀ x 0)
+      pub unmarked : (x : ℕ) → x < 1024 → ltb 0 (getD marks₀ x 0) ≡ ltb (j + 1) (getD marks₀ x 0)
       unmarked x l = g .so-far x l ∙ sym (g .after-each (j + 1) x (omega arith) l)
 
       -- the row marks what it serves

@@ -1,4 +1,5 @@
 -- The rows of one transaction are gone through, and each cell that is met is stamped: no cell is met twice, and where one is, a row is not plain.
+-- A cell that is not marked has not been met, where the row marks what it meets: its stamp need not be looked at.
 -- Assumes nothing.
 use Prim.Native.Nat.{ℕ, _+_, _≤_, _<_}
 use mathlib.Core.Path.{_≡_, refl, sym, _∙_}
@@ -9,8 +10,8 @@ use lib.Seq.{getD-set-same, getD-set-other}
 use native.Mathlib.Omega.{arith}
 use native.Mathlib.Decide.{ℕ-discrete}
 use borrow.Author.Count.{below-more}
-use borrow.Author.Tests.{eqb-true}
-use lib.Dec.{eqb}
+use borrow.Author.Tests.{eqb-true, ltb-true, lt-ltb}
+use lib.Dec.{eqb, ltb}
 use Rattle.spec.specs.Rows.{rowAt, rowsIn, rowsFrom, tagOf, cellOf}
 use Rattle.spec.specs.Look.{isOwn}
 use Rattle.spec.specs.Share.{wrote}
@@ -126,3 +127,57 @@ module _ (tag mark n : ℕ) (s seen₀ : List ℕ) where
         go : (b : Bool) → wrote (rowsFrom 24 n (k + 1) s) (tagOf (rowAt 24 k s)) (cellOf (rowAt 24 k s)) ≡ b → b ≡ false
         go true e = absurd (some-from (isOwn (tagOf (rowAt 24 k s)) (cellOf (rowAt 24 k s))) 24 n s ⊥ (k + 1) e again)
         go false e = refl
+
+-- ---- stamps and marks
+
+-- Where the row counts, a stamped cell is marked; a cell that is not stamped has the mark of before.
+pub record Paired (counts : Bool) (mark : ℕ) (marks₀ marks seen : List ℕ) : Type 0 where
+  pub marked : counts ≡ true → (x : ℕ) → x < 1024 → getD seen x 0 ≡ mark → getD marks x 0 ≡ 0 → ⊥
+  pub kept : (x : ℕ) → x < 1024 → (getD seen x 0 ≡ mark → ⊥) → getD marks x 0 ≡ getD marks₀ x 0
+
+module _ (counts : Bool) (mark : ℕ) (marks₀ : List ℕ) where
+  pub paired-start : (seen : List ℕ) → ((x : ℕ) → x < 1024 → getD seen x 0 ≡ mark → ⊥) → Paired counts mark marks₀ marks₀ seen
+  paired-start seen fresh = record { marked = λ q x l e z. fresh x l e; kept = λ x l ne. refl }
+
+  module _ (marks seen : List ℕ) (p : Paired counts mark marks₀ marks seen) (cell : ℕ) (room : cell < length seen) where
+    stamped-now : getD (set seen cell mark) cell 0 ≡ mark
+    stamped-now = getD-set-same seen cell mark 0 room
+
+    -- the cell is stamped, and its mark stays
+    pub paired-stamp : (counts ≡ true → getD marks cell 0 ≡ 0 → ⊥) → Paired counts mark marks₀ marks (set seen cell mark)
+    paired-stamp ne =
+        record {
+          marked = λ q x l e z. marked q x l e z (ℕ-discrete x cell);
+          kept = λ x l new. kept x l new (ℕ-discrete x cell);
+        }
+      where
+        marked : counts ≡ true → (x : ℕ) → x < 1024 → getD (set seen cell mark) x 0 ≡ mark → getD marks x 0 ≡ 0 → Dec (x ≡ cell) → ⊥
+        marked q x l e z (yes f) = ne q (rw f at z)
+        marked q x l e z (no f) = p .marked q x l (rw (getD-set-other seen cell x mark 0 f) at e) z
+
+        kept : (x : ℕ) → x < 1024 → (getD (set seen cell mark) x 0 ≡ mark → ⊥) → Dec (x ≡ cell) → getD marks x 0 ≡ getD marks₀ x 0
+        kept x l new (yes f) = absurd (new (rw f stamped-now))
+        kept x l new (no f) = p .kept x l (λ e. new (rw (getD-set-other seen cell x mark 0 f) e))
+
+    -- the cell is stamped and marked
+    pub paired-mark : 0 < mark → cell < length marks → Paired counts mark marks₀ (set marks cell mark) (set seen cell mark)
+    paired-mark some fits =
+        record {
+          marked = λ q x l e z. marked q x l e z (ℕ-discrete x cell);
+          kept = λ x l new. kept x l new (ℕ-discrete x cell);
+        }
+      where
+        marked : counts ≡ true → (x : ℕ) → x < 1024 → getD (set seen cell mark) x 0 ≡ mark → getD (set marks cell mark) x 0 ≡ 0 → Dec (x ≡ cell) → ⊥
+        marked q x l e z (yes f) = omega (arith, some, rw (f, getD-set-same marks cell mark 0 fits) at z)
+        marked q x l e z (no f) =
+            p .marked q x l (rw (getD-set-other seen cell x mark 0 f) at e) (rw (getD-set-other marks cell x mark 0 f) at z)
+
+        kept : (x : ℕ) → x < 1024 → (getD (set seen cell mark) x 0 ≡ mark → ⊥) → Dec (x ≡ cell)
+            → getD (set marks cell mark) x 0 ≡ getD marks₀ x 0
+        kept x l new (yes f) = absurd (new (rw f stamped-now))
+        kept x l new (no f) =
+            getD-set-other marks cell x mark 0 f ∙ p .kept x l (λ e. new (rw (getD-set-other seen cell x mark 0 f) e))
+
+-- a mark that is not 0 is above that of the row, where no cell had that mark before
+pub later-mark : (v mark : ℕ) → ltb 0 v ≡ ltb mark v → (v ≡ 0 → ⊥) → mark < v
+later-mark v mark e ne = ltb-true mark v (sym e ∙ lt-ltb 0 v (omega (arith, ne)))

@@ -12,7 +12,7 @@ ghost use Rattle.serving.specs.Inner.{SoFar, Judged, Used};
 
 // Committed row j, where the rows behind it are done. Its data rows of cells that are marked already go, and its
 // other cells are marked with j + 1; a row numbered above low marks nothing. False where it comes to a cell above
-// 1,023 or to one that the transaction has twice.
+// 1,023 or to one that the transaction has twice; a cell with no mark yet has not been met where the row marks.
 fn serve(
     rows: &[u8],
     used: usize,
@@ -56,18 +56,22 @@ fn serve(
         if 1024 <= at {
             return false;
         }
-        if seen[at] == mark {
-            return false;
-        }
-        seen[at] = mark;
-        if mark < marks[at] {
-            flags[i] = 0;
-        } else {
+        if marks[at] == 0 {
             uses[j] = 1;
             if number <= low {
                 marks[at] = mark;
+            } else {
+                if seen[at] == mark {
+                    return false;
+                }
             }
+        } else {
+            if mark == seen[at] {
+                return false;
+            }
+            flags[i] = 0;
         }
+        seen[at] = mark;
         i = follows[i] as usize;
     }
     true

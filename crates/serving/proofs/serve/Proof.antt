@@ -1,23 +1,24 @@
 -- The data rows of committed row j are walked over their chain; rows of other transactions are passed over.
 use Prim.Native.Nat.{ℕ, _+_, _-_, _≤_, _<_}
-use mathlib.Core.Path.{_≡_, refl}
+use mathlib.Core.Path.{_≡_, refl, sym}
 use mathlib.Core.Logic.{⊎-elim}
 use mathlib.Core.Bool.{Bool, true, false}
 use mathlib.Core.List.{List}
-use lib.ListN.{getD, set}
+use lib.ListN.{length, getD, set}
 use lib.Dec.{leb}
-use borrow.Author.Needs.{needs}
 use borrow.Author.Tests.{le-leb, lt-leb}
 use native.Mathlib.Omega.{arith}
 use Rattle.spec.specs.Rows.{rowAt, rowsIn, tagOf, cellOf, commitTag, commitNumber}
 use Rattle.orderly.specs.Inner.{rowEntry, Chain}
-use Rattle.spec.specs.Orderly.{orderlyCommits}
+use Rattle.spec.specs.Orderly.{orderlyCommits, orderlyRows}
 use Rattle.orderly.proofs.Chains.{chain-start, chain-more, chain-rises, chain-carry, head-carry}
 use Rattle.orderly.proofs.Order.{differ, displain, plain-large}
 use Rattle.orderly.proofs.Entries.{entry-tag, entry-of-tag}
 use Rattle.serving.proofs.Stamps.{Stamped, stamped-start, stamped-other, stamped-more, stamped-twice}
+use Rattle.serving.proofs.Stamps.{Paired, paired-start, paired-stamp, paired-mark, later-mark}
 use Rattle.serving.proofs.Serving.{Serving, serving-start, serving-other, serving-served, serving-mark, serving-idle}
-use Rattle.serving.proofs.Marking.{marks-done, plain-done, judged-done, used-done}
+use Rattle.serving.proofs.Marking.{unmarked, marks-done, plain-done, judged-done, used-done}
+use borrow.Author.Needs.{needs}
 use Rattle.serving.proofs.serve.Statement.{statement}
 use Rattle.serving.proofs.serve.Tie as tie
 
@@ -26,6 +27,7 @@ abbrev Walked : ℕ → ℕ → ℕ → ℕ → List ℕ → List ℕ → List �
 Walked low n m j s c seen₀ marks₀ flags₀ uses₀ seen marks flags uses i =
     Serving (leb (commitNumber (rowAt 8 j c)) low) (commitTag (rowAt 8 j c)) (j + 1) n j s marks₀ flags₀ uses₀ marks flags uses i
     × Stamped (commitTag (rowAt 8 j c)) (j + 1) n s seen₀ seen i
+    × Paired (leb (commitNumber (rowAt 8 j c)) low) (j + 1) marks₀ marks seen
 
 abbrev Inv-loop : tie.InvT-loop
 Inv-loop rows used commits entries j low firsts follows seen₀ marks₀ flags₀ uses₀ number mark i₀ seen marks flags uses i =
@@ -44,11 +46,106 @@ module _ (low n m j : ℕ) (s c seen₀ marks₀ flags₀ uses₀ : List ℕ) (o
         serving-other (leb (commitNumber (rowAt 8 j c)) low) (commitTag (rowAt 8 j c)) (j + 1) n j s marks₀ flags₀ uses₀ marks flags uses k
             l (w .0) other,
         stamped-other (commitTag (rowAt 8 j c)) (j + 1) n s seen₀ seen k (w .1) other,
+        w .2,
       )
 
 -- where the answer is false nothing is promised of a true one
 nothing : {A B C D E : Type 0} → E → (false ≡ true → A) × ((false ≡ true → B) × ((false ≡ true → C) × ((false ≡ true → D) × E)))
 nothing e = (λ q. absurd (differ q refl), (λ q. absurd (differ q refl), (λ q. absurd (differ q refl), (λ q. absurd (differ q refl), e))))
+
+-- the row that was met is the transaction's
+own : (c : tie.In-loop Inv-loop μ-loop)
+    → let a = c .before .before .before .before .before .before .args in
+    tagOf (rowAt 24 (c .before .loop .i) (a .rows .now)) ≡ commitTag (rowAt 8 (a .j) (a .commits .now))
+own c =
+    let start = c .before .before .before .before .before .before in
+    let a = start .args in
+    entry-tag (a .entries) (a .commits .now) (a .rows .now) (c .before .loop .i) (a .j) (start .pre .1 .1 .1 .1 .1 .0)
+    (c .before .loop .inv .0 .here (c .loop-test .taken))
+
+rises : (c : tie.In-loop Inv-loop μ-loop)
+    → let a = c .before .before .before .before .before .before .args in
+    let i = c .before .loop .i in (i < getD (a .follows .now) i 0) × (getD (a .follows .now) i 0 ≤ a .used)
+rises c =
+    let a = c .before .before .before .before .before .before .args in
+    let loop = c .before .loop in
+    chain-rises (rowEntry (a .entries) (a .commits .now) (a .rows .now)) (a .used) (a .follows .now) (a .j) (loop .i) (c .loop-test .taken)
+    (loop .inv .0)
+
+-- a cell that is met again: the rows are not orderly
+twice : (c : tie.Else1 Inv-loop μ-loop)
+    → let a = c .before .before .before .before .before .before .before .before .args in
+    getD (c .before .before .before .loop .seen) (c .before .cell-at .result) 0 ≡ a .j + 1 → orderlyRows (rowsIn 24 (a .used) (a .rows .now)) ≡ false
+twice c =
+    let a = c .before .before .before .before .before .before .before .before .args in
+    let loop = c .before .before .before .loop in
+    let inside = c .before .before in
+    let cell = c .before .cell-at in
+    stamped-twice (commitTag (rowAt 8 (a .j) (a .commits .now))) (a .j + 1) (a .used) (a .rows .now) (a .seen .now) (loop .seen) (loop .i)
+    (loop .inv .1 .1)
+    (own inside) (cell .result) (cell .ensures) (inside .loop-test .taken) (omega (arith, c .if1 .left))
+
+-- the row that was met is done
+met : (c : tie.Joined2 Inv-loop μ-loop)
+    → let a = c .before .before .before .before .before .before .before .before .before .before .args in
+    let loop = c .before .before .before .before .before .loop in
+    Walked (a .low) (a .used) (a .entries) (a .j) (a .rows .now) (a .commits .now) (a .seen .now) (a .marks .now) (a .flags .now) (a .uses .now)
+    (set (loop .seen) (c .before .before .before .cell-at .result) (a .j + 1)) (c .if2 .marks) (c .if2 .flags) (c .if2 .uses) (loop .i + 1)
+met c =
+    let start = c .before .before .before .before .before .before .before .before .before .before in
+    let a = start .args in
+    let n = a .used in
+    let s = a .rows .now in
+    let inside = c .before .before .before .before in
+    let loop = inside .before .loop in
+    let cell = c .before .before .before .cell-at in
+    let x = cell .result in
+    let number = c .before .before .before .before .before .before .before .commit-number-at in
+    let tag : ℕ = commitTag (rowAt 8 (a .j) (a .commits .now)) in
+    let counts : Bool = leb (commitNumber (rowAt 8 (a .j) (a .commits .now))) (a .low) in
+    let h = inside .loop-test .taken in
+    let small : x < 1024 = omega (arith, c .before .before .if1 .left) in
+    let room : a .j < 1024 = omega (arith, start .pre .1 .1 .1 .1 .1 .0, start .pre .1 .1 .1 .0) in
+    let row : loop .i < 1024 = omega (arith, h, start .pre .1 .0) in
+    let served = loop .inv .1 .0 in
+    let stamped = loop .inv .1 .1 in
+    let paired = loop .inv .1 .2 in
+    let fits : x < length (loop .seen) = omega (arith, stamped .room) in
+    let room-marks : x < length (loop .marks) = omega (arith, served .marks-size) in
+    let more = stamped-more tag (a .j + 1) n s (a .seen .now) (loop .seen) (loop .i) stamped (own inside) x (cell .ensures) small in
+    let stamp = paired-stamp counts (a .j + 1) (a .marks .now) (loop .marks) (loop .seen) paired x fits in
+    ⊎-elim
+    (λ v.
+    let yes : counts ≡ true = le-leb (commitNumber (rowAt 8 (a .j) (a .commits .now))) (a .low) (omega (arith, number .ensures, v .1 .taken)) in (
+      rw (v .2, v .3, v .4)
+          (serving-mark counts tag (a .j + 1) n (a .j) s (a .marks .now) (a .flags .now) (a .uses .now) (loop .marks) (loop .flags) (loop .uses)
+          (loop .i) h served (own inside) x (cell .ensures) small (omega (arith, v .0 .taken)) room yes),
+      more (λ q. paired .marked yes x small q (v .0 .taken)),
+      rw (v .2) (paired-mark counts (a .j + 1) (a .marks .now) (loop .marks) (loop .seen) paired x fits (omega arith) room-marks),
+    ))
+    (λ u. ⊎-elim
+    (λ v.
+    let no : counts ≡ false = lt-leb (commitNumber (rowAt 8 (a .j) (a .commits .now))) (a .low) (omega (arith, number .ensures, v .1 .left)) in (
+      rw (v .4, v .5, v .6)
+          (serving-idle counts tag (a .j + 1) n (a .j) s (a .marks .now) (a .flags .now) (a .uses .now) (loop .marks) (loop .flags) (loop .uses)
+          (loop .i) h served (own inside) x (cell .ensures) small (omega (arith, v .0 .taken)) room no),
+      more (v .3 .left),
+      rw (v .4) (stamp (λ e z. differ e no)),
+    ))
+    (λ v.
+    let new : getD (loop .seen) x 0 ≡ a .j + 1 → ⊥ = λ q. v .2 .left (sym q) in
+    let old = paired .kept x small new in
+    let fresh = unmarked (a .low) n (a .entries) s (a .commits .now) (a .j) (start .pre .1 .1 .1 .1 .1 .0) (a .marks .now)
+    (start .pre .1 .1 .1 .1 .1 .1 .1 .0) x small in
+    let above : a .j + 1 < getD (loop .marks) x 0 = rw old (later-mark (getD (a .marks .now) x 0) (a .j + 1) fresh (λ z. v .0 .left (rw old z))) in (
+      rw (v .3, v .4, v .5)
+          (serving-served counts tag (a .j + 1) n (a .j) s (a .marks .now) (a .flags .now) (a .uses .now) (loop .marks) (loop .flags) (loop .uses)
+          (loop .i) h served (own inside) x (cell .ensures) small row above),
+      more new,
+      rw (v .3) (stamp (λ e z. v .0 .left z)),
+    ))
+    u)
+    (c .if2 .came)
 
 cast-i : tie.Need-cast-i Inv-loop μ-loop
 cast-i c =
@@ -61,7 +158,8 @@ loop-holds c =
     let a = start .args in
     let pre = start .pre .1 .1 .1 .1 in
     let small : a .j < 4096 = omega (arith, pre .1 .0, start .pre .1 .1 .1 .0) in
-    let known = pre .1 .1 .1 .1 in (
+    let known = pre .1 .1 .1 .1 in
+    let counts = leb (commitNumber (rowAt 8 (a .j) (a .commits .now))) (a .low) in (
       chain-start (rowEntry (a .entries) (a .commits .now) (a .rows .now)) (a .used) (a .follows .now) (a .firsts .now) (a .j) 0 small (pre .1 .1 .0),
       head-carry (rowEntry (a .entries) (a .commits .now) (a .rows .now)) (a .used)
           (λ i. Walked (a .low) (a .used) (a .entries) (a .j) (a .rows .now) (a .commits .now) (a .seen .now) (a .marks .now) (a .flags .now)
@@ -70,11 +168,12 @@ loop-holds c =
           (past (a .low) (a .used) (a .entries) (a .j) (a .rows .now) (a .commits .now) (a .seen .now) (a .marks .now) (a .flags .now) (a .uses .now)
           (pre .0) (pre .1 .0) (a .seen .now) (a .marks .now) (a .flags .now) (a .uses .now))
           (a .firsts .now) 0 small (pre .1 .1 .0) (
-            serving-start (leb (commitNumber (rowAt 8 (a .j) (a .commits .now))) (a .low)) (commitTag (rowAt 8 (a .j) (a .commits .now))) (a .j + 1)
+            serving-start counts (commitTag (rowAt 8 (a .j) (a .commits .now))) (a .j + 1)
                 (a .used) (a .j) (a .rows .now) (a .marks .now) (a .flags .now) (a .uses .now)
                 (pre .1 .1 .1 .0 .size) (known .1 .0 .size) (known .1 .1 .size),
             stamped-start (commitTag (rowAt 8 (a .j) (a .commits .now))) (a .j + 1) (a .used) (a .rows .now) (a .seen .now) (known .0 .room)
                 (λ x l q. known .0 .fresh x (a .j) l (omega arith) q),
+            paired-start counts (a .j + 1) (a .marks .now) (a .seen .now) (λ x l q. known .0 .fresh x (a .j) l (omega arith) q),
           ),
     )
 
@@ -86,87 +185,28 @@ returns c =
     let large : 1024 ≤ cellOf (rowAt 24 (loop .i) (a .rows .now)) = omega (arith, c .before .cell-at .ensures, c .if1 .taken) in
     nothing (λ e. displain (a .used) (a .rows .now) (loop .i) (omega arith) (plain-large (a .used) (a .rows .now) (loop .i) h large))
 
--- the row that was met is the transaction's
-own : (c : tie.In-loop Inv-loop μ-loop)
-    → tagOf (rowAt 24 (c .before .loop .i) (c .before .before .before .before .before .before .args .rows .now)) ≡ commitTag
-    (rowAt 8 (c .before .before .before .before .before .before .args .j) (c .before .before .before .before .before .before .args .commits .now))
-own c =
-    let start = c .before .before .before .before .before .before in
-    let a = start .args in
-    entry-tag (a .entries) (a .commits .now) (a .rows .now) (c .before .loop .i) (a .j) (start .pre .1 .1 .1 .1 .1 .0)
-    (c .before .loop .inv .0 .here (c .loop-test .taken))
-
-rises : (c : tie.In-loop Inv-loop μ-loop)
-    → (c .before .loop .i < getD (c .before .before .before .before .before .before .args .follows .now) (c .before .loop .i) 0)
-    × (getD (c .before .before .before .before .before .before .args .follows .now)
-    (c .before .loop .i) 0 ≤ c .before .before .before .before .before .before .args .used)
-rises c =
-    let a = c .before .before .before .before .before .before .args in
-    let loop = c .before .loop in
-    chain-rises (rowEntry (a .entries) (a .commits .now) (a .rows .now)) (a .used) (a .follows .now) (a .j) (loop .i) (c .loop-test .taken)
-    (loop .inv .0)
-
 returns-2 : tie.Need-returns-2 Inv-loop μ-loop
-returns-2 c =
-    let a = c .before .before .before .before .before .before .before .before .before .before .args in
-    let loop = c .before .before .before .before .before .loop in
-    let inside = c .before .before .before .before in
-    let cell = c .before .before .before .cell-at in
-    nothing
-    (λ e.
-    stamped-twice (commitTag (rowAt 8 (a .j) (a .commits .now))) (a .j + 1) (a .used) (a .rows .now) (a .seen .now) (loop .seen) (loop .i)
-    (loop .inv .1 .1)
-    (own inside) (cell .result) (cell .ensures) (inside .loop-test .taken) (omega (arith, c .before .before .if1 .left)) (c .if2 .taken))
+returns-2 c = nothing (λ e. twice (c .before .before .before .before .before) (c .if4 .taken))
 
--- the row that was met is done
-met : (c : tie.Joined3 Inv-loop μ-loop)
-    → let a = c .before .before .before .before .before .before .before .before .before .before .before .before .args in
-    let loop = c .before .before .before .before .before .before .before .loop in
-    Walked (a .low) (a .used) (a .entries) (a .j) (a .rows .now) (a .commits .now) (a .seen .now) (a .marks .now) (a .flags .now) (a .uses .now)
-    (set (loop .seen) (c .before .before .before .before .before .cell-at .result) (a .j + 1)) (c .if3 .marks) (c .if3 .flags)
-    (c .if3 .uses) (loop .i + 1)
-met c =
-    let start = c .before .before .before .before .before .before .before .before .before .before .before .before in
-    let a = start .args in
-    let inside = c .before .before .before .before .before .before in
-    let loop = inside .before .loop in
-    let cell = c .before .before .before .before .before .cell-at in
-    let small : cell .result < 1024 = omega (arith, c .before .before .before .before .if1 .left) in
-    let room : a .j < 1024 = omega (arith, start .pre .1 .1 .1 .1 .1 .0, start .pre .1 .1 .1 .0) in
-    let number = c .before .before .before .before .before .before .before .before .before .commit-number-at in
-    let tag : ℕ = commitTag (rowAt 8 (a .j) (a .commits .now)) in
-    let counts : Bool = leb (commitNumber (rowAt 8 (a .j) (a .commits .now))) (a .low) in
-    let h = inside .loop-test .taken in (
-      ⊎-elim
-          (λ w. rw (w .1, w .2, w .3)
-          (serving-served counts tag (a .j + 1) (a .used) (a .j) (a .rows .now) (a .marks .now) (a .flags .now) (a .uses .now) (loop .marks)
-          (loop .flags) (loop .uses) (loop .i) h (loop .inv .1 .0)
-          (own inside) (cell .result) (cell .ensures) small (omega (arith, h, start .pre .1 .0)) (omega (arith, w .0 .taken))))
-          (λ v. ⊎-elim
-          (λ w. rw (w .2, w .3, w .4)
-          (serving-mark counts tag (a .j + 1) (a .used) (a .j) (a .rows .now) (a .marks .now) (a .flags .now) (a .uses .now) (loop .marks)
-          (loop .flags) (loop .uses) (loop .i) h (loop .inv .1 .0)
-          (own inside) (cell .result) (cell .ensures) small (omega (arith, w .0 .left)) room
-          (le-leb (commitNumber (rowAt 8 (a .j) (a .commits .now))) (a .low) (omega (arith, number .ensures, w .1 .taken)))))
-          (λ w. rw (w .2, w .3, w .4)
-          (serving-idle counts tag (a .j + 1) (a .used) (a .j) (a .rows .now) (a .marks .now) (a .flags .now) (a .uses .now) (loop .marks)
-          (loop .flags) (loop .uses) (loop .i) h (loop .inv .1 .0)
-          (own inside) (cell .result) (cell .ensures) small (omega (arith, w .0 .left)) room
-          (lt-leb (commitNumber (rowAt 8 (a .j) (a .commits .now))) (a .low) (omega (arith, number .ensures, w .1 .left)))))
-          v)
-          (c .if3 .came),
-      stamped-more tag (a .j + 1) (a .used) (a .rows .now) (a .seen .now) (loop .seen) (loop .i) (loop .inv .1 .1) (own inside) (cell .result)
-          (cell .ensures) small (c .before .before .if2 .left),
-    )
+returns-3 : tie.Need-returns-3 Inv-loop μ-loop
+returns-3 c = nothing (λ e. twice (c .before .before .before .before) (sym (c .if5 .taken)))
+
+cast-i-2 : tie.Need-cast-i-2 Inv-loop μ-loop
+cast-i-2 c = omega (arith, rises (c .before .before .before .before .before))
+
+loop-less : tie.Need-loop-less Inv-loop μ-loop
+loop-less c = omega (arith, rises (c .before .before .before .before .before))
 
 loop-again : tie.Need-loop-again Inv-loop μ-loop
 loop-again c =
-    let start = c .before .before .before .before .before .before .before .before .before .before .before .before .before in
+    let joined = c .before in
+    let inside = joined .before .before .before .before in
+    let start = inside .before .before .before .before .before .before in
     let a = start .args in
-    let loop = c .before .before .before .before .before .before .before .before .loop in
-    let h = c .before .before .before .before .before .before .before .loop-test .taken in
-    let seen = set (loop .seen) (c .before .before .before .before .before .before .cell-at .result) (a .j + 1) in
-    let now = c .before .if3 in (
+    let loop = inside .before .loop in
+    let h = inside .loop-test .taken in
+    let seen = set (loop .seen) (joined .before .before .before .cell-at .result) (a .j + 1) in
+    let now = joined .if2 in (
       chain-more (rowEntry (a .entries) (a .commits .now) (a .rows .now)) (a .used) (a .follows .now) (a .j) (loop .i) h (loop .inv .0),
       chain-carry (rowEntry (a .entries) (a .commits .now) (a .rows .now)) (a .used)
           (λ i. Walked (a .low) (a .used) (a .entries) (a .j) (a .rows .now) (a .commits .now) (a .seen .now) (a .marks .now) (a .flags .now)
@@ -175,11 +215,11 @@ loop-again c =
           (past (a .low) (a .used) (a .entries) (a .j) (a .rows .now) (a .commits .now) (a .seen .now) (a .marks .now) (a .flags .now) (a .uses .now)
           (start .pre .1 .1 .1 .1 .0) (start .pre .1 .1 .1 .1 .1 .0)
           seen (now .marks) (now .flags) (now .uses))
-          (loop .i) h (loop .inv .0) (met (c .before)),
+          (loop .i) h (loop .inv .0) (met joined),
     )
 
-returns-3 : tie.Need-returns-3 Inv-loop μ-loop
-returns-3 c =
+returns-4 : tie.Need-returns-4 Inv-loop μ-loop
+returns-4 c =
     let start = c .before .before .before .before .before .before in
     let a = start .args in
     let loop = c .before .loop in
@@ -209,9 +249,7 @@ serve-spec =
     tie.close
     (tie.spec
     Inv-loop μ-loop (λ c κs. omega (arith, c .before .before .pre)) (λ c. search needs) (λ c. search needs) (λ c. search needs)
-    (λ c. search needs) cast-i loop-holds (λ c κs. search needs)
-    (λ c. search needs) returns (λ c. search needs) (λ c. search needs) returns-2 (λ c. search needs) (λ c. search needs) (λ c. search needs)
-    (λ c. search needs)
-    (λ c. search needs) (λ c. search needs) (λ c. search needs) (λ c. search needs) (λ c. search needs) (λ c. search needs)
-    (λ c. omega (arith, rises (c .before .before .before .before .before .before .before)))
-    (λ c. omega (arith, rises (c .before .before .before .before .before .before .before))) loop-again returns-3)
+    (λ c. search needs) cast-i loop-holds (λ c κs. search needs) (λ c. search needs) returns (λ c. search needs) (λ c. search needs)
+    (λ c. search needs) (λ c. search needs) (λ c. search needs) (λ c. search needs) (λ c. search needs) returns-2 (λ c. search needs)
+    (λ c. search needs) returns-3 (λ c. search needs) (λ c. search needs) (λ c. search needs) (λ c. search needs) (λ c. search needs) cast-i-2
+    loop-less loop-again returns-4)
