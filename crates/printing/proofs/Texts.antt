@@ -2,15 +2,18 @@
 -- Assumes nothing.
 use Prim.Native.Nat.{ℕ, zero, suc, _+_, _-_, _/_, _%_, _≤_, _<_}
 use mathlib.Core.Path.{_≡_, refl, sym, _∙_}
+use mathlib.Core.Bool.{Bool, true, false}
 use mathlib.Core.List.{List, [], _∷_, _++_, append-nil, append-assoc}
 use native.Mathlib.Numerals.{add-one, add-two, sub-one}
 use native.Mathlib.Nat.{lt-irrefl}
 use native.Mathlib.Omega.{arith}
 use lib.ListN.{length, getD, take, drop, set, length-set, length-drop, length-append, drop-of-length-le}
 use lib.Seq.{drop-cons, take-suc, take-suc-set, take-all, drop-set-lt, getD-set-same}
+use lib.Dec.{eqb}
 use borrow.Author.Tests.{eq-eqb, ne-eqb}
+use Rattle.spec.specs.Choice.{if_then_else_}
 use Rattle.spec.specs.Text.{hexDigit, hexText, decimalOn, decimalOf}
-use Rattle.printing.specs.Inner.{Put, Spelled}
+use Rattle.printing.specs.Inner.{Put, Spelled, pairOf}
 
 pub put-then : {a b d w v : List ℕ} {i j k : ℕ} → Put a i w b j → Put b j v d k → Put a i (w ++ v) d k
 put-then {a} {b} {d} {w} {v} {i} {j} {k} p q = record {
@@ -27,13 +30,18 @@ module _ (out w t : List ℕ) (o i : ℕ) (e : take o out ≡ t ++ take i w) whe
   pub put-end : length w ≤ i → take o out ≡ t ++ w
   put-end h = rw (take-all i w h) at e
 
--- ---- hexadecimal digits: what is written with the digits of the bytes from i on is the whole
+-- ---- one byte, and two
 
-put-two : (out : List ℕ) (o a b : ℕ) → o + 1 < length out → take (o + 2) (set (set out o a) (o + 1) b) ≡ take o out ++ (a ∷ b ∷ [])
+pub put-one : (out : List ℕ) (o a : ℕ) → o < length out → take (o + 1) (set out o a) ≡ take o out ++ (a ∷ [])
+put-one out o a h = rw (add-one o, take-suc-set out o a h)
+
+pub put-two : (out : List ℕ) (o a b : ℕ) → o + 1 < length out → take (o + 2) (set (set out o a) (o + 1) b) ≡ take o out ++ (a ∷ b ∷ [])
 put-two out o a b h =
     let k : o + 1 < length (set out o a) = simp length-set (omega arith) in
     let j : o < length out = omega arith in
     rw (add-two o, add-one o, take-suc-set (set out o a) (suc o) b (rw add-one at k), take-suc-set out o a j, append-assoc)
+
+-- ---- hexadecimal digits: what is written with the digits of the bytes from i on is the whole
 
 module _ (out v whole : List ℕ) (o i : ℕ) (e : take o out ++ hexText (drop i v) ≡ whole) where
   pub hex-put : o + 1 < length out → i < length v
@@ -76,6 +84,39 @@ decimal-last d (suc i) n h k z = rw (sub-one (suc i), eq-eqb (n / 10) 0 z, drop-
 pub decimal-end : (i n : ℕ) (t : List ℕ) → i ≤ 0 → decimalOn i n t ≡ t
 unfolding decimalOn
 decimal-end i n t h = let z : i ≡ 0 = omega arith in rw z
+
+-- ---- numbers of few digits
+
+-- a number below 100 has two digits at most, the last ones before any tail
+either-end : (b : Bool) (x y : ℕ) (t : List ℕ) → (if b then (x ∷ t) else (y ∷ x ∷ t)) ≡ (if b then (x ∷ []) else (y ∷ x ∷ [])) ++ t
+either-end true x y t = refl
+either-end false x y t = refl
+
+digits-short : (k n : ℕ) (t : List ℕ) → n < 100 → decimalOn (suc (suc k)) n t ≡ decimalOf n ++ t
+unfolding decimalOf decimalOn
+digits-short k n t h = rw (eq-eqb (n / 10 / 10) 0 (omega arith)) (either-end (eqb (n / 10) 0) (48 + n % 10) (48 + n / 10 % 10) t)
+
+pub decimal-one : (n : ℕ) → n < 10 → decimalOf n ≡ (48 + n) ∷ []
+unfolding decimalOn
+decimal-one n h =
+    let m : n % 10 ≡ n = omega arith in
+    rw (decimal-start n, eq-eqb (n / 10) 0 (omega arith), m)
+
+pub decimal-two : (n : ℕ) → 10 ≤ n → n < 100 → decimalOf n ≡ pairOf n
+unfolding decimalOn
+decimal-two n g h =
+    let m : n / 10 % 10 ≡ n / 10 = omega arith in
+    rw (decimal-start n, ne-eqb (n / 10) 0 (λ e. omega arith), eq-eqb (n / 10 / 10) 0 (omega arith), m)
+
+-- three digits or four: those of the hundreds, and two more
+pub decimal-four : (n : ℕ) → 100 ≤ n → n < 10000 → decimalOf n ≡ decimalOf (n / 100) ++ pairOf (n % 100)
+unfolding decimalOn
+decimal-four n g h =
+    let a : n / 10 / 10 ≡ n / 100 = omega arith in
+    let b : n / 10 % 10 ≡ n % 100 / 10 = omega arith in
+    let d : n % 10 ≡ n % 100 % 10 = omega arith in
+    rw (decimal-start n, ne-eqb (n / 10) 0 (λ e. omega arith), ne-eqb (n / 10 / 10) 0 (λ e. omega arith))
+    (rw (digits-short 6 (n / 10 / 10) _ (omega arith), a, b, d))
 
 -- the digits are the part of the ten bytes that is lent
 module _ {n : ℕ} {d : List ℕ} {from : ℕ} (s : Spelled n d from) where

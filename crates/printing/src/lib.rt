@@ -4,7 +4,7 @@ ghost use mathlib.Core.Path.{_≡_};
 ghost use Prim.Native.Nat.{_+_, _≤_, _<_};
 ghost use lib.ListN.{length};
 ghost use Rattle.spec.specs.Text.{decimalOf, hexDigit, hexText};
-ghost use Rattle.printing.specs.Inner.{Put, Spelled};
+ghost use Rattle.printing.specs.Inner.{Put, Spelled, pairOf};
 
 // The room that an answer line may take, with its newline.
 pub const ANSWER_ROOM: usize = 90;
@@ -47,8 +47,8 @@ fn digits_of(n: u32) -> Digits
     Digits { bytes, from }
 }
 
-// A number in decimal.
-pub fn put_decimal(out: &mut [u8], at: usize, n: u32) -> usize
+// A number in decimal, of any length.
+fn put_long(out: &mut [u8], at: usize, n: u32) -> usize
     requires { ⌜ at + 10 ≤ length (now out) ⌝ }
     ensures { λ r. ⌜ Put (now (out .entry)) at (decimalOf n) (now (out .exit)) r ⌝ }
     ensures { λ r. ⌜ r ≤ at + 10 ⌝ }
@@ -59,6 +59,47 @@ pub fn put_decimal(out: &mut [u8], at: usize, n: u32) -> usize
     put(out, at, &d[from..])
 }
 
+// Two digits.
+fn put_pair(out: &mut [u8], at: usize, n: u32) -> usize
+    requires { ⌜ at + 2 ≤ length (now out) ⌝ }
+    requires { ⌜ n < 100 ⌝ }
+    ensures { λ r. ⌜ Put (now (out .entry)) at (pairOf n) (now (out .exit)) r ⌝ }
+{
+    out[at] = 48 + (n / 10) as u8;
+    out[at + 1] = 48 + (n % 10) as u8;
+    at + 2
+}
+
+// A number of one or two digits.
+fn put_short(out: &mut [u8], at: usize, n: u32) -> usize
+    requires { ⌜ at + 2 ≤ length (now out) ⌝ }
+    requires { ⌜ n < 100 ⌝ }
+    ensures { λ r. ⌜ Put (now (out .entry)) at (decimalOf n) (now (out .exit)) r ⌝ }
+    ensures { λ r. ⌜ r ≤ at + 2 ⌝ }
+{
+    if n < 10 {
+        out[at] = 48 + n as u8;
+        return at + 1;
+    }
+    put_pair(out, at, n)
+}
+
+// A number in decimal. Most have few digits.
+pub fn put_decimal(out: &mut [u8], at: usize, n: u32) -> usize
+    requires { ⌜ at + 10 ≤ length (now out) ⌝ }
+    ensures { λ r. ⌜ Put (now (out .entry)) at (decimalOf n) (now (out .exit)) r ⌝ }
+    ensures { λ r. ⌜ r ≤ at + 10 ⌝ }
+{
+    if n < 100 {
+        return put_short(out, at, n);
+    }
+    if n < 10000 {
+        let a = put_short(out, at, n / 100);
+        return put_pair(out, a, n % 100);
+    }
+    put_long(out, at, n)
+}
+
 // The digit of a value below 16.
 fn hex_digit(d: u8) -> u8
     requires { ⌜ d < 16 ⌝ }
@@ -67,11 +108,29 @@ fn hex_digit(d: u8) -> u8
     if d < 10 { 48 + d } else { 87 + d }
 }
 
+// The digits of sixteen bytes: all made before one is printed.
+fn hex_sixteen(value: &[u8]) -> [u8; 32]
+    requires { ⌜ length (now value) ≡ 16 ⌝ }
+    ensures { λ r. ⌜ r ≡ hexText (now (value .entry)) ⌝ }
+{
+    let mut d = [0u8; 32];
+    for i in 0..16 {
+        let b = value[i];
+        d[2 * i] = hex_digit(b / 16);
+        d[2 * i + 1] = hex_digit(b % 16);
+    }
+    d
+}
+
 // Bytes in hexadecimal.
 pub fn put_hex(out: &mut [u8], at: usize, value: &[u8]) -> usize
     requires { ⌜ at + length (now value) + length (now value) ≤ length (now out) ⌝ }
     ensures { λ r. ⌜ Put (now (out .entry)) at (hexText (now (value .entry))) (now (out .exit)) r ⌝ }
 {
+    if value.len() == 16 {
+        let d = hex_sixteen(value);
+        return put(out, at, &d);
+    }
     let mut i = 0;
     let mut o = at;
     while i < value.len() {
