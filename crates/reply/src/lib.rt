@@ -14,8 +14,9 @@ ghost use Prim.Native.Nat.{_+_, _≤_};
 ghost use lib.ListN.{length};
 ghost use Rattle.spec.specs.Answers.{code, figureOf, beginOf, readOf, advanceOf};
 ghost use Rattle.spec.specs.Text.{str, numbered, headText, lineText, answerText, freeText, droppedText, begunText};
-ghost use Rattle.spec.specs.Text.{readingText, progressText, refusedText, hexText};
+ghost use Rattle.spec.specs.Text.{readingText, progressText, refusedText};
 ghost use Rattle.printing.specs.Inner.{answerRoom, Put};
+ghost use Rattle.reply.specs.Inner.{closed};
 
 // Document 01's number of a refusal; 11 is unused.
 fn code_of(r: Refusal) -> u32
@@ -37,38 +38,27 @@ fn code_of(r: Refusal) -> u32
 }
 
 // ---- the head of a line: as in crate printing, each function appends to the text that ends at a place, and answers
-// where the text ends now
+// where the text ends now. A word is written where it is printed: its length is then known there.
 
-// A word, a number and an end.
-fn put_numbered(out: &mut [u8], at: usize, word: &[u8], n: u32, end: &[u8]) -> usize
-    requires { ⌜ at + length (now word) + 10 + length (now end) ≤ length (now out) ⌝ }
-    ensures { λ r. ⌜ Put (now (out .entry)) at (numbered (now (word .entry)) n (now (end .entry))) (now (out .exit))
-        r ⌝ }
-    ensures { λ r. ⌜ r ≤ at + length (now (word .entry)) + 10 + length (now (end .entry)) ⌝ }
+// A number and a space.
+fn put_spaced(out: &mut [u8], at: usize, n: u32) -> usize
+    requires { ⌜ at + 11 ≤ length (now out) ⌝ }
+    ensures { λ r. ⌜ Put (now (out .entry)) at (numbered [] n (str " ")) (now (out .exit)) r ⌝ }
+    ensures { λ r. ⌜ r ≤ at + 11 ⌝ }
 {
-    let a = printing::put(out, at, word);
-    let b = printing::put_decimal(out, a, n);
-    printing::put(out, b, end)
+    let a = printing::put_decimal(out, at, n);
+    printing::put(out, a, b" ")
 }
 
-// A keyword and a client.
-fn put_client(out: &mut [u8], at: usize, word: &[u8], client: u32) -> usize
-    requires { ⌜ at + length (now word) + 11 ≤ length (now out) ⌝ }
-    ensures { λ r. ⌜ Put (now (out .entry)) at (numbered (now (word .entry)) client (str " ")) (now (out .exit)) r ⌝ }
-    ensures { λ r. ⌜ r ≤ at + length (now (word .entry)) + 11 ⌝ }
+// A client and a cell.
+fn put_cell(out: &mut [u8], at: usize, client: u32, cell: u32) -> usize
+    requires { ⌜ at + 22 ≤ length (now out) ⌝ }
+    ensures { λ r. ⌜ Put (now (out .entry)) at (numbered [] client (str " ") ++ numbered [] cell (str " "))
+        (now (out .exit)) r ⌝ }
+    ensures { λ r. ⌜ r ≤ at + 22 ⌝ }
 {
-    put_numbered(out, at, word, client, b" ")
-}
-
-// A keyword, a client and a cell.
-fn put_cell(out: &mut [u8], at: usize, word: &[u8], client: u32, cell: u32) -> usize
-    requires { ⌜ at + length (now word) + 22 ≤ length (now out) ⌝ }
-    ensures { λ r. ⌜ Put (now (out .entry)) at
-        (numbered (now (word .entry)) client (str " ") ++ numbered [] cell (str " ")) (now (out .exit)) r ⌝ }
-    ensures { λ r. ⌜ r ≤ at + length (now (word .entry)) + 22 ⌝ }
-{
-    let a = put_client(out, at, word, client);
-    put_client(out, a, b"", cell)
+    let a = put_spaced(out, at, client);
+    put_spaced(out, a, cell)
 }
 
 // Keyword, client and cell of a form.
@@ -83,69 +73,121 @@ fn put_head(out: &mut [u8], at: usize, form: Form) -> usize
             first: _,
             limit: _,
         } => printing::put(out, at, b"(set-up "),
-        Form::Begin(client) => put_client(out, at, b"(begin ", client),
-        Form::Read(client, cell) => put_cell(out, at, b"(read ", client, cell),
+        Form::Begin(client) => {
+            let a = printing::put(out, at, b"(begin ");
+            put_spaced(out, a, client)
+        }
+        Form::Read(client, cell) => {
+            let a = printing::put(out, at, b"(read ");
+            put_cell(out, a, client, cell)
+        }
         Form::Write {
             client,
             cell,
             value: _,
-        } => put_cell(out, at, b"(write ", client, cell),
-        Form::Advance(client) => put_client(out, at, b"(advance ", client),
-        Form::Abandon(client) => put_client(out, at, b"(abandon ", client),
+        } => {
+            let a = printing::put(out, at, b"(write ");
+            put_cell(out, a, client, cell)
+        }
+        Form::Advance(client) => {
+            let a = printing::put(out, at, b"(advance ");
+            put_spaced(out, a, client)
+        }
+        Form::Abandon(client) => {
+            let a = printing::put(out, at, b"(abandon ");
+            put_spaced(out, a, client)
+        }
         Form::Trim => printing::put(out, at, b"(trim "),
         Form::Free => printing::put(out, at, b"(free "),
         Form::Other => printing::put(out, at, b"(line "),
     }
 }
 
-// ---- whole lines, with their newline. The last word printed closes the result and the line.
+// ---- results. The last word printed closes the result and the line.
 
-// The result is a word and a number.
-fn number_line(out: &mut [u8], at: usize, form: Form, word: &[u8], n: u32) -> usize
-    requires { ⌜ at + answerRoom ≤ length (now out) ⌝ }
-    requires { ⌜ length (now word) ≤ 10 ⌝ }
-    ensures { λ r. ⌜ Put (now (out .entry)) at (lineText form (numbered (now (word .entry)) n (str ")"))) (now
-        (out .exit)) r ⌝ }
-    ensures { λ r. ⌜ r ≤ at + answerRoom ⌝ }
+// A number and the end.
+fn put_last(out: &mut [u8], at: usize, n: u32) -> usize
+    requires { ⌜ at + 13 ≤ length (now out) ⌝ }
+    ensures { λ r. ⌜ Put (now (out .entry)) at (numbered [] n (closed (str ")"))) (now (out .exit)) r ⌝ }
+    ensures { λ r. ⌜ r ≤ at + 13 ⌝ }
 {
-    let a = put_head(out, at, form);
-    put_numbered(out, a, word, n, b"))\n")
+    let a = printing::put_decimal(out, at, n);
+    printing::put(out, a, b"))\n")
 }
 
-// The result is what Begin gives.
-fn open_line(out: &mut [u8], at: usize, form: Form, begun: Begun) -> usize
-    requires { ⌜ at + answerRoom ≤ length (now out) ⌝ }
-    ensures { λ r. ⌜ Put (now (out .entry)) at (lineText form (begunText begun)) (now (out .exit)) r ⌝ }
-    ensures { λ r. ⌜ r ≤ at + answerRoom ⌝ }
+fn put_refused(out: &mut [u8], at: usize, number: u32) -> usize
+    requires { ⌜ at + 50 ≤ length (now out) ⌝ }
+    ensures { λ r. ⌜ Put (now (out .entry)) at (closed (refusedText number)) (now (out .exit)) r ⌝ }
+    ensures { λ r. ⌜ r ≤ at + 50 ⌝ }
 {
-    let a = put_head(out, at, form);
-    let b = put_numbered(out, a, b"(number ", begun.number, b") ");
-    put_numbered(out, b, b"(snapshot ", begun.snapshot, b"))\n")
+    let a = printing::put(out, at, b"(refused ");
+    put_last(out, a, number)
 }
 
-// The result is a value.
-fn value_line(out: &mut [u8], at: usize, form: Form, value: &[u8]) -> usize
-    requires { ⌜ at + answerRoom ≤ length (now out) ⌝ }
+fn put_begun(out: &mut [u8], at: usize, begun: Begun) -> usize
+    requires { ⌜ at + 50 ≤ length (now out) ⌝ }
+    ensures { λ r. ⌜ Put (now (out .entry)) at (closed (begunText begun)) (now (out .exit)) r ⌝ }
+    ensures { λ r. ⌜ r ≤ at + 50 ⌝ }
+{
+    let a = printing::put(out, at, b"(number ");
+    let b = printing::put_decimal(out, a, begun.number);
+    let c = printing::put(out, b, b") (snapshot ");
+    put_last(out, c, begun.snapshot)
+}
+
+// value is what was read, where something was.
+fn put_reading(out: &mut [u8], at: usize, reading: Reading, value: &[u8]) -> usize
+    requires { ⌜ at + 50 ≤ length (now out) ⌝ }
     requires { ⌜ length (now value) ≤ 16 ⌝ }
-    ensures { λ r. ⌜ Put (now (out .entry)) at
-        (lineText form (str "(value " ++ (hexText (now (value .entry)) ++ str ")"))) (now (out .exit)) r ⌝ }
-    ensures { λ r. ⌜ r ≤ at + answerRoom ⌝ }
+    ensures { λ r. ⌜ Put (now (out .entry)) at (closed (readingText (now (value .entry)) reading))
+        (now (out .exit)) r ⌝ }
+    ensures { λ r. ⌜ r ≤ at + 50 ⌝ }
 {
-    let a = put_head(out, at, form);
-    let b = printing::put(out, a, b"(value ");
-    let c = printing::put_hex(out, b, value);
-    printing::put(out, c, b"))\n")
+    match reading {
+        Reading::Value(_) => {
+            let a = printing::put(out, at, b"(value ");
+            let b = printing::put_hex(out, a, value);
+            printing::put(out, b, b"))\n")
+        }
+        Reading::Unwritten => printing::put(out, at, b"(unwritten))\n"),
+    }
 }
+
+fn put_progress(out: &mut [u8], at: usize, progress: Progress) -> usize
+    requires { ⌜ at + 50 ≤ length (now out) ⌝ }
+    ensures { λ r. ⌜ Put (now (out .entry)) at (closed (progressText progress)) (now (out .exit)) r ⌝ }
+    ensures { λ r. ⌜ r ≤ at + 50 ⌝ }
+{
+    match progress {
+        Progress::Stage(n) => {
+            let a = printing::put(out, at, b"(stage ");
+            put_last(out, a, n)
+        }
+        Progress::Waiting(n) => {
+            let a = printing::put(out, at, b"(waiting ");
+            put_last(out, a, n)
+        }
+        Progress::Conflict(n) => {
+            let a = printing::put(out, at, b"(conflict ");
+            put_last(out, a, n)
+        }
+        Progress::Done(n) => {
+            let a = printing::put(out, at, b"(done ");
+            put_last(out, a, n)
+        }
+    }
+}
+
+// ---- whole lines, with their newline: the head, and the result by the kind of answer
 
 pub fn refused_line(out: &mut [u8], at: usize, form: Form, number: u32) -> usize
     requires { ⌜ at + answerRoom ≤ length (now out) ⌝ }
     ensures { λ r. ⌜ Put (now (out .entry)) at (lineText form (refusedText number)) (now (out .exit)) r ⌝ }
     ensures { λ r. ⌜ r ≤ at + answerRoom ⌝ }
 {
-    number_line(out, at, form, b"(refused ", number)
+    let a = put_head(out, at, form);
+    put_refused(out, a, number)
 }
-
-// ---- lines by the kind of answer
 
 pub fn free_line(out: &mut [u8], at: usize, form: Form, answer: FigureAnswer) -> usize
     requires { ⌜ at + answerRoom ≤ length (now out) ⌝ }
@@ -153,9 +195,13 @@ pub fn free_line(out: &mut [u8], at: usize, form: Form, answer: FigureAnswer) ->
         (now (out .exit)) r ⌝ }
     ensures { λ r. ⌜ r ≤ at + answerRoom ⌝ }
 {
+    let a = put_head(out, at, form);
     match answer {
-        FigureAnswer::Answered(n) => number_line(out, at, form, b"(free ", n),
-        FigureAnswer::Refused(r) => refused_line(out, at, form, code_of(r)),
+        FigureAnswer::Answered(n) => {
+            let b = printing::put(out, a, b"(free ");
+            put_last(out, b, n)
+        }
+        FigureAnswer::Refused(r) => put_refused(out, a, code_of(r)),
     }
 }
 
@@ -165,9 +211,13 @@ pub fn dropped_line(out: &mut [u8], at: usize, form: Form, answer: FigureAnswer)
         (now (out .exit)) r ⌝ }
     ensures { λ r. ⌜ r ≤ at + answerRoom ⌝ }
 {
+    let a = put_head(out, at, form);
     match answer {
-        FigureAnswer::Answered(n) => number_line(out, at, form, b"(dropped ", n),
-        FigureAnswer::Refused(r) => refused_line(out, at, form, code_of(r)),
+        FigureAnswer::Answered(n) => {
+            let b = printing::put(out, a, b"(dropped ");
+            put_last(out, b, n)
+        }
+        FigureAnswer::Refused(r) => put_refused(out, a, code_of(r)),
     }
 }
 
@@ -177,13 +227,13 @@ pub fn begun_line(out: &mut [u8], at: usize, form: Form, answer: BeginAnswer) ->
         (now (out .exit)) r ⌝ }
     ensures { λ r. ⌜ r ≤ at + answerRoom ⌝ }
 {
+    let a = put_head(out, at, form);
     match answer {
-        BeginAnswer::Answered(begun) => open_line(out, at, form, begun),
-        BeginAnswer::Refused(r) => refused_line(out, at, form, code_of(r)),
+        BeginAnswer::Answered(begun) => put_begun(out, a, begun),
+        BeginAnswer::Refused(r) => put_refused(out, a, code_of(r)),
     }
 }
 
-// value is what was read, where something was.
 pub fn reading_line(
     out: &mut [u8],
     at: usize,
@@ -197,15 +247,10 @@ pub fn reading_line(
         (lineText form (answerText (readingText (now (value .entry))) (readOf answer))) (now (out .exit)) r ⌝ }
     ensures { λ r. ⌜ r ≤ at + answerRoom ⌝ }
 {
+    let a = put_head(out, at, form);
     match answer {
-        ReadAnswer::Answered(reading) => match reading {
-            Reading::Value(_) => value_line(out, at, form, value),
-            Reading::Unwritten => {
-                let a = put_head(out, at, form);
-                printing::put(out, a, b"(unwritten))\n")
-            }
-        },
-        ReadAnswer::Refused(r) => refused_line(out, at, form, code_of(r)),
+        ReadAnswer::Answered(reading) => put_reading(out, a, reading, value),
+        ReadAnswer::Refused(r) => put_refused(out, a, code_of(r)),
     }
 }
 
@@ -215,13 +260,9 @@ pub fn progress_line(out: &mut [u8], at: usize, form: Form, answer: AdvanceAnswe
         (now (out .exit)) r ⌝ }
     ensures { λ r. ⌜ r ≤ at + answerRoom ⌝ }
 {
+    let a = put_head(out, at, form);
     match answer {
-        AdvanceAnswer::Answered(progress) => match progress {
-            Progress::Stage(n) => number_line(out, at, form, b"(stage ", n),
-            Progress::Waiting(n) => number_line(out, at, form, b"(waiting ", n),
-            Progress::Conflict(n) => number_line(out, at, form, b"(conflict ", n),
-            Progress::Done(n) => number_line(out, at, form, b"(done ", n),
-        },
-        AdvanceAnswer::Refused(r) => refused_line(out, at, form, code_of(r)),
+        AdvanceAnswer::Answered(progress) => put_progress(out, a, progress),
+        AdvanceAnswer::Refused(r) => put_refused(out, a, code_of(r)),
     }
 }

@@ -7,11 +7,11 @@ use Rattle.reply.proofs.put_cell.Tie as tie
 
 returns : tie.Need-returns
 returns c =
-    let k = c .before .before .before .before .before .before .before .put-client .ensures in
-    let x = c .before .before .put-client2 .ensures in
+    let k = c .before .before .before .before .before .before .put-spaced .ensures in
+    let x = c .before .before .put-spaced2 .ensures in
     (put-then (k .0) (x .0), omega (arith, k .1, x .1))
 
 pub put-cell-spec : {M : Type 1} → statement M
 put-cell-spec =
     tie.close (tie.spec
-    (λ c κs. search needs) (λ c. search needs) (λ c κs. search needs) (λ c. search needs) returns)
+    (λ c κs. search needs) (λ c κs. search needs) (λ c. search needs) returns)
