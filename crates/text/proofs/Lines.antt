@@ -1,7 +1,7 @@
 -- A line read byte by byte: words and decimal numbers. Each law is one turn of a loop, or its end: what the definition says of the bytes
 -- from a place on is what it says of the bytes from the next place on.
 -- Assumes nothing.
-use Prim.Native.Nat.{ℕ, _+_, _*_, _≤_, _<_}
+use Prim.Native.Nat.{ℕ, _+_, _-_, _*_, _%_, _≤_, _<_}
 use mathlib.Core.Path.{_≡_, refl}
 use mathlib.Core.Bool.{Bool, true, false}
 use mathlib.Core.List.{List, [], _∷_}
@@ -10,15 +10,15 @@ use native.Mathlib.Nat.{not-suc-le-zero}
 use native.Mathlib.Omega.{arith}
 use lib.ListN.{length, getD, drop, drop-of-length-le}
 use lib.Seq.{drop-cons}
-use lib.Dec.{eqb}
-use borrow.Author.Tests.{lt-ltb, le-ltb, eq-eqb, ne-eqb}
+use lib.Dec.{ltb, eqb}
+use borrow.Author.Tests.{ltb-false, lt-ltb, le-ltb, eq-eqb, ne-eqb}
 use Rattle.spec.specs.Choice.{if_then_else_}
 use Rattle.spec.specs.Text.{begins, digitVal, digitsFrom, decimalFrom, decimalAt}
 use Rattle.spec.specs.declared.Decimal.the-variants.{Is, No}
 
 -- ---- words
 
-neither : (b : Bool) → (if b then false else false) ≡ false
+pub neither : (b : Bool) → (if b then false else false) ≡ false
 neither true = refl
 neither false = refl
 
@@ -39,6 +39,22 @@ module _ (w s : List ℕ) (i : ℕ) where
   begins-other h k n = rw (drop-cons w i 0 h, drop-cons s i 0 k, ne-eqb (getD w i 0) (getD s i 0) n)
 
 -- ---- decimal numbers
+
+-- the digits are the bytes from 48 on, taken round the 256 bytes
+module _ (b : ℕ) (f : b < 256) where
+  pub digit-near : (b + 208) % 256 < 10 → digitVal b ≡ (b + 208) % 256
+  unfolding digitVal
+  digit-near h =
+      let e : b - 48 ≡ (b + 208) % 256 = omega arith in
+      rw (le-ltb b 48 (omega arith), le-ltb 57 b (omega arith), e)
+
+  pub digit-far : 10 ≤ (b + 208) % 256 → digitVal b ≡ 10
+  unfolding digitVal
+  digit-far h = go (ltb b 48) refl
+    where
+      go : (x : Bool) → ltb b 48 ≡ x → (if x then 10 else (if ltb 57 b then 10 else b - 48)) ≡ 10
+      go true e = refl
+      go false e = rw (lt-ltb 57 b (omega (arith, ltb-false b 48 e)))
 
 module _ (s : List ℕ) (i : ℕ) where
   pub decimal-none : length s ≤ i → decimalAt s i ≡ No

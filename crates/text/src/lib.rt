@@ -11,6 +11,7 @@ ghost use lib.ListN.{length};
 ghost use Rattle.spec.specs.Text.{begins as Text·begins, stands as Text·stands, bracketAt, digitVal, decimalAt};
 ghost use Rattle.spec.specs.Text.{hexVal, hexAt, valueIn, oneAt, spacedAt, twoAt};
 ghost use Rattle.spec.specs.Text.{setUpOf, writeOf, formIn, formOf};
+ghost use Rattle.text.specs.Inner.{HexValues};
 
 // A line of more bytes is no form.
 const LONGEST_FORM: usize = 80;
@@ -60,19 +61,15 @@ fn bracket_at(line: &[u8], at: usize) -> bool
     }
 }
 
-// ---- numbers and values in a line. Bytes 48 to 57 are the digits 0 to 9, 97 to 102 the letters a to f.
+// ---- numbers and values in a line. Bytes 48 to 57 are the digits 0 to 9, 97 to 102 the letters a to f. Digits are
+// read in one way for all bytes, so that they are read several at a time.
 
 // The value of a decimal digit, 10 for any other byte.
 fn digit_of(b: u8) -> u64
     ensures { λ r. ⌜ r ≡ digitVal b ⌝ }
 {
-    if b < 48 {
-        return 10;
-    }
-    if 57 < b {
-        return 10;
-    }
-    (b - 48) as u64
+    let d = (b as u64 + 208) % 256;
+    if d < 10 { d } else { 10 }
 }
 
 // The decimal number at a place of the line.
@@ -113,41 +110,54 @@ fn decimal(line: &[u8], at: usize) -> Decimal
 }
 
 // The value of a hexadecimal digit, 16 for any other byte.
-fn hex_of(b: u8) -> u32
+fn hex_of(b: u8) -> u8
     ensures { λ r. ⌜ (r ≡ hexVal b) × (r ≤ 16) ⌝ }
 {
     if b < 48 {
         return 16;
     }
     if b < 58 {
-        return (b - 48) as u32;
+        return b - 48;
     }
     if b < 97 {
         return 16;
     }
     if b < 103 {
-        return (b - 87) as u32;
+        return b - 87;
     }
     16
 }
 
-// Whether 32 hexadecimal digits stand in the line from a place on.
+// Whether 32 hexadecimal digits stand in the line from a place on: the largest value decides.
 fn hex_at(line: &[u8], at: usize) -> bool
     ensures { λ r. ⌜ r ≡ hexAt (now (line .entry)) at ⌝ }
 {
-    let mut left: usize = 32;
-    let mut i = at;
-    while 0 < left {
-        if line.len() <= i {
-            return false;
-        }
-        if 16 <= hex_of(line[i]) {
-            return false;
-        }
-        i += 1;
-        left -= 1;
+    if line.len() < 32 {
+        return false;
     }
-    true
+    if line.len() - 32 < at {
+        return false;
+    }
+    let mut most: u8 = 0;
+    for i in 0..32 {
+        let d = hex_of(line[at + i]);
+        if most < d {
+            most = d;
+        }
+    }
+    most < 16
+}
+
+// The values of the 32 digits from a place on.
+fn digits_at(line: &[u8], at: usize) -> [u8; 32]
+    requires { ⌜ at + 32 ≤ length (now line) ⌝ }
+    ensures { λ r. ⌜ HexValues (now (line .entry)) at r ⌝ }
+{
+    let mut d = [0u8; 32];
+    for i in 0..32 {
+        d[i] = hex_of(line[at + i]);
+    }
+    d
 }
 
 // The sixteen bytes whose digits stand in the line from a place on; zeros where they are not all there.
@@ -161,12 +171,9 @@ pub fn value_in(line: &[u8], at: usize) -> [u8; 16]
     if line.len() - 32 < at {
         return v;
     }
-    let mut i = 0;
-    let mut o = at;
-    while i < 16 {
-        v[i] = ((hex_of(line[o]) * 16 + hex_of(line[o + 1])) % 256) as u8;
-        i += 1;
-        o += 2;
+    let d = digits_at(line, at);
+    for i in 0..16 {
+        v[i] = ((d[2 * i] as u32 * 16 + d[2 * i + 1] as u32) % 256) as u8;
     }
     v
 }

@@ -1,38 +1,48 @@
--- Whether 32 digits stand at the place is whether the ones left to see stand from i on. Assumes nothing.
+-- The digits passed by their largest value, and those still to come. Assumes nothing.
 use borrow.Author.Needs.{needs}
-use mathlib.Core.Path.{_≡_, _∙_, refl, sym}
-use lib.ListN.{drop}
-use Rattle.spec.specs.Text.{allHex}
-use Rattle.text.proofs.HexDigits.{hex-end, hex-short, hex-other, hex-more}
+use Prim.Native.Nat.{_+_, _-_, _≤_, _<_}
+use mathlib.Core.Path.{_≡_, _∙_, sym}
+use mathlib.Core.Logic.{⊎-elim}
+use native.Mathlib.Omega.{arith}
+use lib.ListN.{length, drop, length-drop}
+use Rattle.spec.specs.Text.{hexAt}
+use Rattle.text.proofs.HexDigits.{hexFrom, hex-short, hex-start, hex-next, hex-end}
 use Rattle.text.proofs.hex_at.Statement.{statement}
 use Rattle.text.proofs.hex_at.Tie as tie
 
 abbrev Inv-loop : tie.InvT-loop
-Inv-loop line at left₀ i₀ left i = allHex 32 (drop at line) ≡ allHex left (drop i line)
+Inv-loop line at most₀ i₀ most i = (i ≤ 32) × (hexAt line at ≡ hexFrom line at most i)
 
 abbrev μ-loop : tie.MeasureT-loop
-μ-loop line at left₀ i₀ left i = left
+μ-loop line at most₀ i₀ most i = 32 - i
 
 returns : tie.Need-returns Inv-loop μ-loop
-returns c = sym (c .before .before .loop .inv ∙ hex-short _ _ _ (c .before .loop-test .taken) (c .if1 .taken))
+returns c = sym (hex-short 32 (drop (c .before .before .args .at) (c .before .before .args .line .now)) (simp length-drop (omega arith)))
 
 returns-2 : tie.Need-returns-2 Inv-loop μ-loop
-returns-2 c =
-    let d = c .before .before .before in
-    sym (d .before .before .loop .inv
-    ∙ hex-other _ _ _ (c .before .hex-of .ensures .0) (d .if1 .left) _ (d .before .loop-test .taken) (c .if2 .taken))
+returns-2 c = sym (hex-short 32 (drop (c .before .before .before .args .at) (c .before .before .before .args .line .now)) (simp length-drop (omega arith)))
+
+loop-holds : tie.Need-loop-holds Inv-loop μ-loop
+loop-holds c = (omega arith, hex-start (c .before .before .before .args .line .now) (c .before .before .before .args .at))
 
 loop-again : tie.Need-loop-again Inv-loop μ-loop
 loop-again c =
-    let d = c .before .before .before in
-    d .before .before .loop .inv
-    ∙ hex-more _ _ _ (c .before .hex-of .ensures .0) (d .if1 .left) _ (d .before .loop-test .taken) (c .if2 .left)
+    let l = c .before .before .before .before .loop in
+    let a = c .before .before .before .before .before .before .before .before .args in
+    let d = c .before .hex-of in
+    let h : a .at + l .i < length (a .line .now) = omega arith in
+    let m : (l .most ≤ c .if3 .most) × (d .result ≤ c .if3 .most) × (l .most < 16 → d .result < 16 → c .if3 .most < 16) =
+    ⊎-elim
+    (λ w. (omega arith, omega arith, λ p q. omega arith))
+    (λ w. (omega arith, omega arith, λ p q. omega arith))
+    (c .if3 .came) in
+    (omega arith, l .inv .1 ∙ hex-next _ _ _ _ _ _ (d .ensures .0) h (c .before .before .before .loop-test .taken) m)
 
 returns-3 : tie.Need-returns-3 Inv-loop μ-loop
-returns-3 c = sym (c .before .loop .inv ∙ hex-end (c .before .loop .left) _ (c .loop-test .left))
+returns-3 c = sym (c .before .loop .inv .1 ∙ hex-end _ _ _ (c .before .loop .i) (omega arith))
 
 pub hex-at-spec : {M : Type 1} → statement M
 hex-at-spec =
     tie.close (tie.spec
-    Inv-loop μ-loop (λ c. refl) returns (λ c. search needs) (λ c κs. search needs) returns-2 (λ c. search needs)
-    (λ c. search needs) (λ c. search needs) loop-again returns-3)
+    Inv-loop μ-loop returns (λ c. search needs) returns-2 loop-holds (λ c. search needs) (λ c. search needs)
+    (λ c κs. search needs) (λ c. search needs) (λ c. search needs) loop-again returns-3)

@@ -39,4 +39,4 @@ returns-5 c =
 pub hex-of-spec : {M : Type 1} → statement M
 hex-of-spec =
     tie.close (tie.spec
-    returns (λ c. search needs) returns-2 returns-3 (λ c. search needs) (λ c. search needs) returns-4 returns-5)
+    returns returns-2 returns-3 (λ c. search needs) returns-4 returns-5)
