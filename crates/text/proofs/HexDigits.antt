@@ -24,11 +24,11 @@ hex-short (suc k) (b ∷ s) h = rw (hex-short k s (omega arith)) (neither (ltb (
 
 -- d is the value of the digit at i
 module _ (s : List ℕ) (i d : ℕ) (e : d ≡ hexVal (getD s i 0)) (l : i < length s) where
-  pub hex-other : (k : ℕ) → 0 < k → 16 ≤ d → allHex k (drop i s) ≡ false
+  hex-other : (k : ℕ) → 0 < k → 16 ≤ d → allHex k (drop i s) ≡ false
   hex-other zero h n = absurd (lt-irrefl _ h)
   hex-other (suc k) h n = rw (drop-cons s i 0 l, ← e, le-ltb d 16 n)
 
-  pub hex-more : (k : ℕ) → 0 < k → d < 16 → allHex k (drop i s) ≡ allHex (k - 1) (drop (i + 1) s)
+  hex-more : (k : ℕ) → 0 < k → d < 16 → allHex k (drop i s) ≡ allHex (k - 1) (drop (i + 1) s)
   hex-more zero h n = absurd (lt-irrefl _ h)
   hex-more (suc k) h n = rw (drop-cons s i 0 l, ← e, lt-ltb d 16 n, add-one i, sub-one (suc k))
 

@@ -17,10 +17,14 @@ abbrev μ-loop : tie.MeasureT-loop
 μ-loop line at most₀ i₀ most i = 32 - i
 
 returns : tie.Need-returns Inv-loop μ-loop
-returns c = sym (hex-short 32 (drop (c .before .before .args .at) (c .before .before .args .line .now)) (simp length-drop (omega arith)))
+returns c =
+    let a = c .before .before .args in
+    sym (hex-short 32 (drop (a .at) (a .line .now)) (simp length-drop (omega arith)))
 
 returns-2 : tie.Need-returns-2 Inv-loop μ-loop
-returns-2 c = sym (hex-short 32 (drop (c .before .before .before .args .at) (c .before .before .before .args .line .now)) (simp length-drop (omega arith)))
+returns-2 c =
+    let a = c .before .before .before .args in
+    sym (hex-short 32 (drop (a .at) (a .line .now)) (simp length-drop (omega arith)))
 
 loop-holds : tie.Need-loop-holds Inv-loop μ-loop
 loop-holds c = (omega arith, hex-start (c .before .before .before .args .line .now) (c .before .before .before .args .at))
