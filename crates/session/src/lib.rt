@@ -3,13 +3,44 @@
 use printing::ANSWER_ROOM;
 use spec::Store;
 ghost use mathlib.Core.Path.{_≡_};
-ghost use Prim.Native.Nat.{_-_, _≤_};
+ghost use mathlib.Core.Bool.{true};
+ghost use Prim.Native.Nat.{_+_, _-_, _≤_};
 ghost use lib.ListN.{length, take, drop};
 ghost use Rattle.spec.specs.Bytes.{memoryOf};
-ghost use Rattle.session.specs.Inner.{mostKept, newlineFrom, Fed};
+ghost use Rattle.session.specs.Inner.{mostKept, newlineFrom, Passed, Fed};
 
 // Of a begun line so many bytes are kept: one more than a form may have.
 const MOST_KEPT: usize = 81;
+
+// Whether none of the eight bytes from a place on is a newline. All are looked at, so that they are compared at once.
+fn none_in_eight(s: &[u8], at: usize) -> bool
+    requires { ⌜ at + 8 ≤ length (now s) ⌝ }
+    ensures { λ r. ⌜ (r ≡ true → Passed (now (s .entry)) at (at + 8)) ⌝ }
+{
+    let mut none = true;
+    for k in 0..8 {
+        if s[at + k] == 10 {
+            none = false;
+        }
+    }
+    none
+}
+
+// The place that the search for a newline comes to by eights.
+fn pass_eights(s: &[u8], from: usize) -> usize
+    requires { ⌜ from ≤ length (now s) ⌝ }
+    ensures { λ r. ⌜ Passed (now (s .entry)) from r ⌝ }
+    ensures { λ r. ⌜ (from ≤ r) × (r ≤ length (now (s .entry))) ⌝ }
+{
+    let mut i = from;
+    while 8 <= s.len() - i {
+        if !none_in_eight(s, i) {
+            return i;
+        }
+        i += 8;
+    }
+    i
+}
 
 // The place of the first newline at or after a place, or the input's length.
 fn newline(s: &[u8], from: usize) -> usize
@@ -17,7 +48,7 @@ fn newline(s: &[u8], from: usize) -> usize
     ensures { λ r. ⌜ r ≡ newlineFrom from (drop from (now (s .entry))) ⌝ }
     ensures { λ r. ⌜ (from ≤ r) × (r ≤ length (now (s .entry))) ⌝ }
 {
-    let mut i = from;
+    let mut i = pass_eights(s, from);
     while i < s.len() {
         if s[i] == 10 {
             return i;

@@ -1,20 +1,22 @@
--- The search goes on from each byte that is no newline.
--- Assumes nothing.
-use Prim.Native.Nat.{_-_, _≤_}
-use mathlib.Core.Path.{_≡_, _∙_, refl, sym}
-use native.Mathlib.Omega.{arith}
+-- The search goes on from the place behind the eights, and from each byte that is no newline. Assumes nothing.
 use borrow.Author.Needs.{needs}
-use lib.ListN.{length, drop}
-use Rattle.session.specs.Inner.{newlineFrom}
+use Prim.Native.Nat.{_-_, _≤_}
+use mathlib.Core.Path.{_∙_, sym}
+use native.Mathlib.Omega.{arith}
+use lib.ListN.{length}
+use Rattle.session.specs.Inner.{Passed}
 use Rattle.session.proofs.Chunks.{newline-end, newline-found, newline-more}
 use Rattle.session.proofs.newline.Statement.{statement}
 use Rattle.session.proofs.newline.Tie as tie
 
 abbrev Inv-loop : tie.InvT-loop
-Inv-loop s from i₀ i = (from ≤ i) × (i ≤ length s) × (newlineFrom from (drop from s) ≡ newlineFrom i (drop i s))
+Inv-loop s from i₀ i = (from ≤ i) × (i ≤ length s) × Passed s from i
 
 abbrev μ-loop : tie.MeasureT-loop
 μ-loop s from i₀ i = length s - i
+
+loop-holds : tie.Need-loop-holds Inv-loop μ-loop
+loop-holds c = (omega arith, omega arith, c .pass-eights .ensures .0)
 
 returns : tie.Need-returns Inv-loop μ-loop
 returns c =
@@ -29,7 +31,6 @@ returns-2 c = (sym (c .before .loop .inv .2 ∙ newline-end _ _ (c .loop-test .l
 
 pub newline-spec : {M : Type 1} → statement M
 newline-spec =
-    tie.close
-    (tie.spec
-    Inv-loop μ-loop
-    (λ c. (omega arith, omega arith, refl)) (λ c. search needs) returns (λ c. search needs) (λ c. search needs) loop-again returns-2)
+    tie.close (tie.spec
+    Inv-loop μ-loop (λ c κs. search needs) loop-holds (λ c. search needs) returns (λ c. search needs)
+    (λ c. search needs) loop-again returns-2)
