@@ -47,7 +47,7 @@ fn digits_of(n: u32) -> Digits
     Digits { bytes, from }
 }
 
-// A number in decimal, of any length.
+// A number of any length, in decimal.
 fn put_long(out: &mut [u8], at: usize, n: u32) -> usize
     requires { ⌜ at + 10 ≤ length (now out) ⌝ }
     ensures { λ r. ⌜ Put (now (out .entry)) at (decimalOf n) (now (out .exit)) r ⌝ }
@@ -84,7 +84,7 @@ fn put_short(out: &mut [u8], at: usize, n: u32) -> usize
     put_pair(out, at, n)
 }
 
-// A number in decimal. Most have few digits.
+// A number in decimal: up to four digits two by two, more in the long way.
 pub fn put_decimal(out: &mut [u8], at: usize, n: u32) -> usize
     requires { ⌜ at + 10 ≤ length (now out) ⌝ }
     ensures { λ r. ⌜ Put (now (out .entry)) at (decimalOf n) (now (out .exit)) r ⌝ }
@@ -108,7 +108,7 @@ fn hex_digit(d: u8) -> u8
     if d < 10 { 48 + d } else { 87 + d }
 }
 
-// The digits of sixteen bytes: all made before one is printed.
+// The digits of sixteen bytes. All are made before one is printed, so that several are made at a time.
 fn hex_sixteen(value: &[u8]) -> [u8; 32]
     requires { ⌜ length (now value) ≡ 16 ⌝ }
     ensures { λ r. ⌜ r ≡ hexText (now (value .entry)) ⌝ }

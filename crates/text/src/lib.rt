@@ -61,10 +61,9 @@ fn bracket_at(line: &[u8], at: usize) -> bool
     }
 }
 
-// ---- numbers and values in a line. Bytes 48 to 57 are the digits 0 to 9, 97 to 102 the letters a to f. Digits are
-// read in one way for all bytes, so that they are read several at a time.
+// ---- numbers and values in a line. Bytes 48 to 57 are the digits 0 to 9, 97 to 102 the letters a to f.
 
-// The value of a decimal digit, 10 for any other byte.
+// The value of a decimal digit, 10 for any other byte. Byte 48 comes round to 0: one test is enough.
 fn digit_of(b: u8) -> u64
     ensures { λ r. ⌜ r ≡ digitVal b ⌝ }
 {
@@ -128,7 +127,8 @@ fn hex_of(b: u8) -> u8
     16
 }
 
-// Whether 32 hexadecimal digits stand in the line from a place on: the largest value decides.
+// Whether 32 hexadecimal digits stand in the line from a place on. The largest value decides: all 32 are looked at,
+// so that several are read at a time.
 fn hex_at(line: &[u8], at: usize) -> bool
     ensures { λ r. ⌜ r ≡ hexAt (now (line .entry)) at ⌝ }
 {
@@ -148,7 +148,7 @@ fn hex_at(line: &[u8], at: usize) -> bool
     most < 16
 }
 
-// The values of the 32 digits from a place on.
+// The values of the 32 bytes from a place on, as digits.
 fn digits_at(line: &[u8], at: usize) -> [u8; 32]
     requires { ⌜ at + 32 ≤ length (now line) ⌝ }
     ensures { λ r. ⌜ HexValues (now (line .entry)) at r ⌝ }
