@@ -108,29 +108,11 @@ fn hex_digit(d: u8) -> u8
     if d < 10 { 48 + d } else { 87 + d }
 }
 
-// The digits of sixteen bytes. All are made before one is printed, so that several are made at a time.
-fn hex_sixteen(value: &[u8]) -> [u8; 32]
-    requires { ⌜ length (now value) ≡ 16 ⌝ }
-    ensures { λ r. ⌜ r ≡ hexText (now (value .entry)) ⌝ }
-{
-    let mut d = [0u8; 32];
-    for i in 0..16 {
-        let b = value[i];
-        d[2 * i] = hex_digit(b / 16);
-        d[2 * i + 1] = hex_digit(b % 16);
-    }
-    d
-}
-
 // Bytes in hexadecimal.
 pub fn put_hex(out: &mut [u8], at: usize, value: &[u8]) -> usize
     requires { ⌜ at + length (now value) + length (now value) ≤ length (now out) ⌝ }
     ensures { λ r. ⌜ Put (now (out .entry)) at (hexText (now (value .entry))) (now (out .exit)) r ⌝ }
 {
-    if value.len() == 16 {
-        let d = hex_sixteen(value);
-        return put(out, at, &d);
-    }
     let mut i = 0;
     let mut o = at;
     while i < value.len() {

@@ -1,4 +1,4 @@
--- Sixteen bytes are printed as one word; of others, the text up to o with the digits of the bytes from i on is the whole text. Assumes nothing.
+-- The text up to o with the digits of the bytes from i on is the whole text. Assumes nothing.
 use borrow.Author.Needs.{needs}
 use Prim.Native.Nat.{_+_, _-_, _≤_, _<_}
 use mathlib.Core.Path.{_≡_, refl}
@@ -20,17 +20,11 @@ Inv-loop out₀ at value i₀ o₀ out i o =
 abbrev μ-loop : tie.MeasureT-loop
 μ-loop out₀ at value i₀ o₀ out i o = length value - i
 
-returns : tie.Need-returns Inv-loop μ-loop
-returns c = rw (c .before .before .before .before .before .hex-sixteen .ensures) at (c .before .before .put .ensures)
-
 loop-holds : tie.Need-loop-holds Inv-loop μ-loop
 loop-holds c = (omega arith, omega arith, refl, refl)
 
 hex-digit-requires : tie.Need-hex-digit-requires Inv-loop μ-loop
 hex-digit-requires c κs = omega (arith, c .shared-slice-known2 .given (c .before .before .loop .i))
-
-slice-write-out-2 : tie.Need-slice-write-out-2 Inv-loop μ-loop
-slice-write-out-2 c = simp length-set (omega arith)
 
 loop-again : tie.Need-loop-again Inv-loop μ-loop
 loop-again c =
@@ -39,16 +33,14 @@ loop-again c =
       omega arith,
       omega arith,
       simp length-set (l .inv .2),
-      rw (c .before .hex-digit .ensures, c .hex-digit2 .ensures) (hex-put _ _ _ _ _ (l .inv .3) h (c .before .before .before .loop-test .taken)),
+      rw (c .before .hex-digit .ensures, c .hex-digit2 .ensures)
+          (hex-put _ _ _ _ _ (l .inv .3) h (c .before .before .before .loop-test .taken)),
     )
 
-same-length-2 : tie.Need-same-length-2 Inv-loop μ-loop
-same-length-2 c = c .before .loop .inv .2
-
-returns-2 : tie.Need-returns-2 Inv-loop μ-loop
-returns-2 c =
+returns : tie.Need-returns Inv-loop μ-loop
+returns c =
     let l = c .before .loop in
-    let a = c .before .before .before .before .before .args in
+    let a = c .before .before .before .before .args in
     record {
       place = omega (arith, hex-length (a .value .now));
       text = hex-all (l .out) (a .value .now) _ (l .o) (l .i) (l .inv .3) (c .loop-test .left);
@@ -57,6 +49,6 @@ returns-2 c =
 pub put-hex-spec : {M : Type 1} → statement M
 put-hex-spec =
     tie.close (tie.spec
-    Inv-loop μ-loop (λ c κs. search needs) (λ c. search needs) (λ c κs. search needs) (λ c. search needs) returns
-    loop-holds (λ c. search needs) hex-digit-requires (λ c. search needs) (λ c κs. search needs) (λ c. search needs)
-    slice-write-out-2 (λ c. search needs) (λ c. search needs) (λ c. search needs) loop-again same-length-2 returns-2)
+    Inv-loop μ-loop loop-holds (λ c. search needs) hex-digit-requires (λ c. search needs) (λ c κs. search needs)
+    (λ c. search needs) (λ c. simp length-set (omega arith)) (λ c. search needs) (λ c. search needs) (λ c. search needs)
+    loop-again (λ c. c .before .loop .inv .2) returns)
