@@ -13,7 +13,6 @@ use Rattle.spec.proofs.Rows.{length-rows, filter-fewer}
 use Rattle.spec.specs.declared.Store.{Store}
 use Rattle.spec.specs.Calls.{replies, removed, abandon}
 use Rattle.spec.specs.Bytes.{decode, storeOf}
-use Rattle.steps.specs.Inner.{Removed}
 
 module _ (s : Store) (d c : List ℕ) where
   pub abandon-removed : (k n : ℕ) → n ≡ removed k (decode s d c) .rows - length (removed k (decode s d c) .dataRows)
@@ -22,10 +21,10 @@ module _ (s : Store) (d c : List ℕ) where
   abandon-removed k n e h m t = rw (lt-leb clients k h, ne-eqb (getD (s .number) k 0) 0 m, lt-leb 12 (getD (s .stage) k 0) t, e)
 
   -- the free figure after it
-  pub removed-figure : (k : ℕ) (s′ : Store) (d′ : List ℕ) → Removed k s d s′ d′
+  pub removed-figure : (k : ℕ) (s′ : Store) → s′ ≡ storeOf (removed k (decode s d c))
       → s′ .rows - s′ .used ≡ removed k (decode s d c) .rows - length (removed k (decode s d c) .dataRows)
   unfolding storeOf
-  removed-figure k s′ d′ r = ap (λ (x : Store). x .rows - x .used) (r .store c)
+  removed-figure k s′ e = ap (λ (x : Store). x .rows - x .used) e
 
   -- no more rows are left than there were
   removed-fewer : (k : ℕ) → length (removed k (decode s d c) .dataRows) ≤ s .used
@@ -34,7 +33,7 @@ module _ (s : Store) (d c : List ℕ) where
       let p : Row → Bool = λ r. not (hasTag (getD (s .number) k 0) r) in
       omega (arith, filter-fewer p (rowsIn 24 (s .used) d), length-rows 24 (s .used) d)
 
-  pub removed-within : (k : ℕ) (s′ : Store) (d′ : List ℕ) → Removed k s d s′ d′ → s .used ≤ s .rows → s′ .used ≤ s′ .rows
+  pub removed-within : (k : ℕ) (s′ : Store) → s′ ≡ storeOf (removed k (decode s d c)) → s .used ≤ s .rows → s′ .used ≤ s′ .rows
   unfolding storeOf removed decode
-  removed-within k s′ d′ r h =
-      omega (arith, ap (λ (x : Store). x .rows) (r .store c), ap (λ (x : Store). x .used) (r .store c), removed-fewer k)
+  removed-within k s′ e h =
+      omega (arith, ap (λ (x : Store). x .rows) e, ap (λ (x : Store). x .used) e, removed-fewer k)

@@ -1,37 +1,60 @@
 // Abandon: the transaction's data rows and queue rows go in one step.
 ghost use Rattle.spec.specs.Answers.{figureOf};
 ghost use Rattle.spec.specs.Calls.{abandon};
-ghost use Rattle.spec.specs.Bytes.{memoryOf, Performs};
+ghost use Rattle.record.specs.Inner.{columns, PerformsOn};
+use record::FigureResult;
+use record::Head;
+use spec::CLIENTS;
 use spec::FigureAnswer;
-use spec::FigureTurn;
 use spec::LIMIT;
 use spec::Refusal;
-use spec::Store;
+use spec::Set;
 
 // Abandon answers the free figure.
-pub fn abandon(store: Store, rows: &mut [u8], commits: &[u8], client: u32) -> FigureTurn
-    ensures { λ r. ⌜ Performs (abandon client)
-        (memoryOf store (now (rows .entry)) (now (commits .entry)))
-        (memoryOf (r .store) (now (rows .exit)) (now (commits .entry))) (figureOf (r .answer)) ⌝ }
+pub fn abandon(
+    h: Head,
+    stage: &mut [u32; CLIENTS],
+    number: &mut [u32; CLIENTS],
+    snapshot: &mut [u32; CLIENTS],
+    request: &mut [u32; CLIENTS],
+    commit: &mut [u32; CLIENTS],
+    requestWaits: &mut [Set; CLIENTS],
+    commitWaits: &mut [Set; CLIENTS],
+    rows: &mut [u8],
+    commits: &[u8],
+    client: u32,
+) -> FigureResult
+    ensures { λ r. ⌜ PerformsOn (abandon client) h
+        (columns stage number snapshot request commit requestWaits commitWaits) rows commits
+        (r .head) (figureOf (r .answer)) ⌝ }
 {
-    if !record::fit(store, rows.len(), commits.len()) {
-        return record::no_figure(store, Refusal::Unfit);
+    if !record::fit(h, stage, rows.len(), commits.len()) {
+        return record::no_figure(h, Refusal::Unfit);
     }
     if LIMIT <= client {
-        return record::no_figure(store, Refusal::NoClient);
+        return record::no_figure(h, Refusal::NoClient);
     }
     let k = client as usize;
-    let numbers = store.number;
-    if numbers[k] == 0 {
-        return record::no_figure(store, Refusal::NotOpen);
+    if number[k] == 0 {
+        return record::no_figure(h, Refusal::NotOpen);
     }
-    let stages = store.stage;
-    if 12 <= stages[k] {
-        return record::no_figure(store, Refusal::WrongStage);
+    if 12 <= stage[k] {
+        return record::no_figure(h, Refusal::WrongStage);
     }
-    let next = steps::remove(store, rows, client);
-    FigureTurn {
-        store: next,
+    let next = steps::remove(
+        h,
+        stage,
+        number,
+        snapshot,
+        request,
+        commit,
+        requestWaits,
+        commitWaits,
+        rows,
+        client,
+    );
+    FigureResult {
+        head: next,
         answer: FigureAnswer::Answered(next.rows - next.used),
     }
 }

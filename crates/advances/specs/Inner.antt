@@ -1,13 +1,15 @@
 -- What the contracts of inner functions need beyond the words of the papers: nobody has to believe it.
 -- Assumes nothing.
 use Prim.Native.Nat.{ℕ}
-use mathlib.Core.List.{List}
 use lib.ListN.{getD}
-use Rattle.spec.specs.declared.AdvanceTurn.{AdvanceTurn}
-use Rattle.spec.specs.Bytes.{Memory}
+use denote.Triple.Both.{Both}
+use Rattle.spec.specs.Image.{Clients}
 use Rattle.spec.specs.Steps.{steps, noStep}
-use Rattle.queues.specs.Inner.{StepDone}
+use Rattle.record.specs.declared.Head.{Head}
+use Rattle.record.specs.declared.AdvanceResult.{AdvanceResult}
+use Rattle.record.specs.Inner.{Lent}
+use Rattle.queues.specs.Inner.{Step}
 
--- the promise of the one step that the stage of client k calls for
-abbrev pub StepDue : ℕ → Memory → AdvanceTurn → List ℕ → List ℕ → Type 0
-StepDue k m t d′ c′ = StepDone (getD steps (getD (m .store .stage) k 0) noStep k) m t d′ c′
+-- the promise of the one step that the stage of client i calls for
+abbrev pub StepDue : ℕ → Head → Both Clients Clients → Lent → Lent → AdvanceResult → Type 0
+StepDue i h k d c t = Step (getD steps (getD (k .entry .stage) i 0) noStep i) h k d c t

@@ -2,69 +2,77 @@
 ghost use mathlib.Core.Path.{_≡_};
 ghost use Rattle.spec.specs.Answers.{beginOf};
 ghost use Rattle.spec.specs.Calls.{begin};
-ghost use Rattle.spec.specs.Bytes.{memoryOf, Performs};
+ghost use Rattle.record.specs.Inner.{columns, PerformsOn};
+use record::Head;
 use spec::BeginAnswer;
-use spec::BeginTurn;
 use spec::Begun;
+use spec::CLIENTS;
 use spec::LIMIT;
 use spec::Refusal;
-use spec::Store;
+use spec::Set;
 use spec::TOP;
 
-fn no_begin(store: Store, refusal: Refusal) -> BeginTurn
-    ensures { λ r. ⌜ r ≡ record { store = store; answer = BeginAnswer.Refused refusal } ⌝ }
+// The numbers that Begin leaves, and its answer.
+pub struct BeginResult {
+    pub head: Head,
+    pub answer: BeginAnswer,
+}
+
+fn no_begin(h: Head, refusal: Refusal) -> BeginResult
+    ensures { λ r. ⌜ r ≡ record { head = h; answer = BeginAnswer.Refused refusal } ⌝ }
 {
-    BeginTurn {
-        store,
+    BeginResult {
+        head: h,
         answer: BeginAnswer::Refused(refusal),
     }
 }
 
-pub fn begin(store: Store, rows: &[u8], commits: &[u8], client: u32) -> BeginTurn
-    ensures { λ r. ⌜ Performs (begin client)
-        (memoryOf store (now (rows .entry)) (now (commits .entry)))
-        (memoryOf (r .store) (now (rows .entry)) (now (commits .entry))) (beginOf (r .answer)) ⌝ }
+pub fn begin(
+    h: Head,
+    stage: &mut [u32; CLIENTS],
+    number: &mut [u32; CLIENTS],
+    snapshot: &mut [u32; CLIENTS],
+    request: &mut [u32; CLIENTS],
+    commit: &mut [u32; CLIENTS],
+    requestWaits: &mut [Set; CLIENTS],
+    commitWaits: &mut [Set; CLIENTS],
+    rows: &[u8],
+    commits: &[u8],
+    client: u32,
+) -> BeginResult
+    ensures { λ r. ⌜ PerformsOn (begin client) h
+        (columns stage number snapshot request commit requestWaits commitWaits) rows commits
+        (r .head) (beginOf (r .answer)) ⌝ }
 {
-    if !record::fit(store, rows.len(), commits.len()) {
-        return no_begin(store, Refusal::Unfit);
+    if !record::fit(h, stage, rows.len(), commits.len()) {
+        return no_begin(h, Refusal::Unfit);
     }
     if LIMIT <= client {
-        return no_begin(store, Refusal::NoClient);
+        return no_begin(h, Refusal::NoClient);
     }
     let k = client as usize;
-    let mut numbers = store.number;
-    if numbers[k] != 0 {
-        return no_begin(store, Refusal::AlreadyOpen);
+    if number[k] != 0 {
+        return no_begin(h, Refusal::AlreadyOpen);
     }
-    if store.issued == TOP {
-        return no_begin(store, Refusal::NumbersUsedUp);
+    if h.issued == TOP {
+        return no_begin(h, Refusal::NumbersUsedUp);
     }
-    let number = store.issued + 1;
-    let snapshot = store.last;
-    let mut stages = store.stage;
-    stages[k] = 0;
-    numbers[k] = number;
-    let mut snapshots = store.snapshot;
-    snapshots[k] = snapshot;
-    let mut requests = store.request;
-    requests[k] = 0;
-    let mut commit_numbers = store.commit;
-    commit_numbers[k] = 0;
-    let mut request_waits = store.requestWaits;
-    request_waits[k] = 0;
-    let mut commit_waits = store.commitWaits;
-    commit_waits[k] = 0;
-    let mut next = store;
-    next.issued = number;
-    next.stage = stages;
-    next.number = numbers;
-    next.snapshot = snapshots;
-    next.request = requests;
-    next.commit = commit_numbers;
-    next.requestWaits = request_waits;
-    next.commitWaits = commit_waits;
-    BeginTurn {
-        store: next,
-        answer: BeginAnswer::Answered(Begun { number, snapshot }),
+    let own = h.issued + 1;
+    let since = h.last;
+    stage[k] = 0;
+    number[k] = own;
+    snapshot[k] = since;
+    request[k] = 0;
+    commit[k] = 0;
+    requestWaits[k] = 0;
+    commitWaits[k] = 0;
+    let mut next = h;
+    next.issued = own;
+    BeginResult {
+        head: next,
+        answer: BeginAnswer::Answered(Begun {
+            number: own,
+            snapshot: since,
+        }),
     }
 }

@@ -23,7 +23,7 @@ use Rattle.spec.specs.Bytes.{storeOf, After, afterOf, onBytes, limitOf, accepts
 use Rattle.spec.specs.Text.{formOf, freeText, answerText, refusedText, lineText}
 use Rattle.spec.specs.Session.{front, behind, resultText, said, setUpSaid, setUpResponse, response, answerTo}
 use Rattle.printing.specs.Inner.{Put}
-use Rattle.lines.specs.Inner.{Front, Spoken, keptOf}
+use Rattle.lines.specs.Inner.{Front, Spoken}
 
 front-take : (n r : ℕ) (b : List ℕ) → Front n (length b) r → take r b ≡ take n b
 front-take n r b f =
@@ -73,12 +73,17 @@ module _ (store : Store) (b b₂ : List ℕ) (out out′ : List ℕ) (at used : 
           absurd (omega arith)
       go false q = (ap (λ (o : After ℕ). o .memory .dataBytes) q, ap (λ (o : After ℕ). o .memory .commitBytes) q)
 
+  -- "a refused set-up keeps the old one"
+  abbrev pub keptOf : Store → FigureAnswer → Store
+  keptOf new (figure.Answered n) = new
+  keptOf new (figure.Refused r) = store
+
   set-up : (form : Form) (r first limit d c : ℕ) (s : Store) (x y d′ c′ : List ℕ) (a : FigureAnswer)
       → Front (24 * r) (length b) d → Front (8 * r) (length b₂) c
       → afterOf s x y (figureOf a) ≡ setUp (take d b) (take c b₂) first limit → d′ ≡ x ++ drop d b → c′ ≡ y ++ drop c b₂
       → Put out at (lineText form (answerText freeText (figureOf a))) out′ used → used ≤ at + 90
       → (o : After ℕ) → afterOf s x y (figureOf a) ≡ o
-      → Spoken (setUpSaid form r (memoryOf store b b₂) o (o .answer)) (memoryOf (keptOf store s a) d′ c′) out at out′ used
+      → Spoken (setUpSaid form r (memoryOf store b b₂) o (o .answer)) (memoryOf (keptOf s a) d′ c′) out at out′ used
   set-up form r first limit d c s x y d′ c′ (figure.Answered n) fd fc e p q u l o z =
       subst (λ (o : After ℕ). Spoken (setUpSaid form r (memoryOf store b b₂) o (o .answer)) (memoryOf s d′ c′) out at out′ used) z
       (record { memory = rw (p, q, front-drop (24 * r) d b fd, front-drop (8 * r) c b₂ fc); text = u; room = l })
@@ -87,14 +92,15 @@ module _ (store : Store) (b b₂ : List ℕ) (out out′ : List ℕ) (at used : 
       subst (λ (o : After ℕ). Spoken (setUpSaid form r (memoryOf store b b₂) o (o .answer)) (memoryOf store d′ c′) out at out′ used) z
       (record { memory = rw (p, q, k .0, k .1, take-append-drop d b, take-append-drop c b₂); text = u; room = l })
 
-  pub set-up-spoken : (form : Form) (r first limit d c : ℕ) (s : Store) (x y d′ c′ : List ℕ) (a : FigureAnswer) → r ≤ 1024
+  -- s′ is the record that is kept
+  pub set-up-spoken : (form : Form) (r first limit d c : ℕ) (s s′ : Store) (x y d′ c′ : List ℕ) (a : FigureAnswer) → r ≤ 1024 → s′ ≡ keptOf s a
       → Front (24 * r) (length b) d → Front (8 * r) (length b₂) c
       → afterOf s x y (figureOf a) ≡ setUp (take d b) (take c b₂) first limit → d′ ≡ x ++ drop d b → c′ ≡ y ++ drop c b₂
       → Put out at (lineText form (answerText freeText (figureOf a))) out′ used → used ≤ at + 90
-      → Spoken (setUpResponse form r first limit (memoryOf store b b₂)) (memoryOf (keptOf store s a) d′ c′) out at out′ used
+      → Spoken (setUpResponse form r first limit (memoryOf store b b₂)) (memoryOf s′ d′ c′) out at out′ used
   unfolding setUpResponse
-  set-up-spoken form r first limit d c s x y d′ c′ a h fd fc e p q u l =
-      rw (le-ltb 1024 r h)
+  set-up-spoken form r first limit d c s s′ x y d′ c′ a h k fd fc e p q u l =
+      rw (le-ltb 1024 r h, k)
       (set-up form r first limit d c s x y d′ c′ a fd fc e p q u l (setUp (take (24 * r) b) (take (8 * r) b₂) first limit)
       (e ∙ rw (front-take (24 * r) d b fd, front-take (8 * r) c b₂ fc)))
 

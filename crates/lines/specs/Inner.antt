@@ -4,12 +4,14 @@ use Prim.Native.Nat.{ℕ, _+_, _≤_}
 use mathlib.Core.List.{List}
 use mathlib.Core.Path.{_≡_}
 use mathlib.Core.Logic.{_⊎_}
-use Rattle.spec.specs.declared.Store.{Store}
-use Rattle.spec.specs.declared.FigureAnswer.{FigureAnswer}
-use Rattle.spec.specs.declared.FigureAnswer.the-variants.{Answered, Refused}
+use denote.Triple.Both.{Both}
+use Rattle.spec.specs.Image.{Clients}
 use Rattle.spec.specs.Session.{Response}
 use Rattle.spec.specs.Bytes.{Memory}
 use Rattle.printing.specs.Inner.{answerRoom, Put}
+use Rattle.record.specs.declared.Head.{Head}
+use Rattle.record.specs.Inner.{Lent, memoryFound, memoryLeft}
+use Rattle.lines.specs.declared.Answered.{Answered}
 
 -- r is n, or the length of a buffer that has fewer than n bytes
 abbrev pub Front : ℕ → ℕ → ℕ → Type 0
@@ -21,7 +23,7 @@ pub record Spoken (p : Response) (w : Memory) (out : List ℕ) (at : ℕ) (out�
   pub text : Put out at (p .text) out′ used
   pub room : used ≤ at + answerRoom
 
--- "a refused set-up keeps the old one"
-abbrev pub keptOf : Store → Store → FigureAnswer → Store
-keptOf old new (Answered n) = new
-keptOf old new (Refused r) = old
+-- what a line, whose response is p, leaves of numbers, columns, buffers and text
+abbrev pub Says : (Memory → Response) → Head → Both Clients Clients → Lent → Lent → Lent → ℕ → Answered → Type 0
+Says p h k d c out at r =
+    Spoken (p (memoryFound h k d c)) (memoryLeft (r .head) k d c) (out .entry .now) at (out .exit .now) (r .used)

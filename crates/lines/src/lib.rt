@@ -1,25 +1,29 @@
-// The answer to a line, on the record and the program's two buffers. Definitions: crate spec, specs/Session.antt.
+// The answer to a line, on a record apart and the program's two buffers. Definitions: crate spec, specs/Session.antt.
+use record::Head;
+use spec::CLIENTS;
 use spec::COMMIT_ROW;
 use spec::DATA_ROW;
 use spec::FigureAnswer;
 use spec::Form;
 use spec::ReadAnswer;
 use spec::Reading;
-use spec::Store;
+use spec::Set;
 ghost use mathlib.Core.Path.{_≡_};
-ghost use Prim.Native.Nat.{_+_, _*_, _≤_};
+ghost use mathlib.Core.List.{List};
+ghost use Prim.Native.Nat.{ℕ, _+_, _≤_};
 ghost use lib.ListN.{length};
 ghost use Rattle.spec.specs.Answers.{readOf};
-ghost use Rattle.spec.specs.Bytes.{memoryOf};
 ghost use Rattle.spec.specs.Run.{Begin, Read, Write, Advance, Abandon, Trim, Free};
 ghost use Rattle.spec.specs.Text.{valueIn};
 ghost use Rattle.spec.specs.Values.{valueFrom};
 ghost use Rattle.spec.specs.Session.{said, setUpResponse, answerTo};
 ghost use Rattle.printing.specs.Inner.{answerRoom};
-ghost use Rattle.lines.specs.Inner.{Front, Spoken, keptOf};
+ghost use Rattle.record.specs.Inner.{columns, unseen};
+ghost use Rattle.lines.specs.Inner.{Front, Says};
 
+// The numbers that a line leaves, and where the text ends.
 pub struct Answered {
-    pub store: Store,
+    pub head: Head,
     pub used: usize,
 }
 
@@ -33,18 +37,15 @@ fn front(n: usize, len: usize) -> usize
 
 // ---- the answer to each form
 
-// The record after a set-up: a refused one keeps the old record.
-fn kept(old: Store, new: Store, answer: FigureAnswer) -> Store
-    ensures { λ r. ⌜ r ≡ keptOf old new answer ⌝ }
-{
-    match answer {
-        FigureAnswer::Answered(_) => new,
-        FigureAnswer::Refused(_) => old,
-    }
-}
-
 fn set_up_said(
-    store: Store,
+    h: Head,
+    stage: &mut [u32; CLIENTS],
+    number: &mut [u32; CLIENTS],
+    snapshot: &mut [u32; CLIENTS],
+    request: &mut [u32; CLIENTS],
+    commit: &mut [u32; CLIENTS],
+    requestWaits: &mut [Set; CLIENTS],
+    commitWaits: &mut [Set; CLIENTS],
     count: u32,
     first: u32,
     limit: u32,
@@ -54,11 +55,8 @@ fn set_up_said(
     at: usize,
 ) -> Answered
     requires { ⌜ at + answerRoom ≤ length (now out) ⌝ }
-    ensures { λ r. ⌜ Spoken
-        (setUpResponse (Form.SetUp count first limit) count first limit
-        (memoryOf store (now (rows .entry)) (now (commits .entry))))
-        (memoryOf (r .store) (now (rows .exit)) (now (commits .exit)))
-        (now (out .entry)) at (now (out .exit)) (r .used) ⌝ }
+    ensures { λ r. ⌜ Says (setUpResponse (Form.SetUp count first limit) count first limit) h
+        (columns stage number snapshot request commit requestWaits commitWaits) rows commits out at r ⌝ }
 {
     let form = Form::SetUp {
         rows: count,
@@ -67,22 +65,40 @@ fn set_up_said(
     };
     if 1024 < count {
         let used = reply::refused_line(out, at, form, 1);
-        return Answered { store, used };
+        return Answered { head: h, used };
     }
     let d = front(DATA_ROW * count as usize, rows.len());
     let c = front(COMMIT_ROW * count as usize, commits.len());
     let turn = store::set_up(&mut rows[..d], &mut commits[..c], first, limit);
     let answer = turn.answer;
-    let next = turn.store;
     let used = reply::free_line(out, at, form, answer);
-    Answered {
-        store: kept(store, next, answer),
-        used,
+    match answer {
+        FigureAnswer::Answered(_) => Answered {
+            head: record::spread(
+                turn.store,
+                stage,
+                number,
+                snapshot,
+                request,
+                commit,
+                requestWaits,
+                commitWaits,
+            ),
+            used,
+        },
+        FigureAnswer::Refused(_) => Answered { head: h, used },
     }
 }
 
 fn begin_said(
-    store: Store,
+    h: Head,
+    stage: &mut [u32; CLIENTS],
+    number: &mut [u32; CLIENTS],
+    snapshot: &mut [u32; CLIENTS],
+    request: &mut [u32; CLIENTS],
+    commit: &mut [u32; CLIENTS],
+    requestWaits: &mut [Set; CLIENTS],
+    commitWaits: &mut [Set; CLIENTS],
     client: u32,
     rows: &[u8],
     commits: &[u8],
@@ -90,18 +106,28 @@ fn begin_said(
     at: usize,
 ) -> Answered
     requires { ⌜ at + answerRoom ≤ length (now out) ⌝ }
-    ensures { λ r. ⌜ Spoken
-        (said (Form.Begin client) (Begin client) (memoryOf store (now (rows .entry)) (now (commits .entry))))
-        (memoryOf (r .store) (now (rows .entry)) (now (commits .entry)))
-        (now (out .entry)) at (now (out .exit)) (r .used) ⌝ }
+    ensures { λ r. ⌜ Says (said (Form.Begin client) (Begin client)) h
+        (columns stage number snapshot request commit requestWaits commitWaits) rows commits out at r ⌝ }
 {
-    let d = front(DATA_ROW * store.rows as usize, rows.len());
-    let c = front(COMMIT_ROW * store.rows as usize, commits.len());
-    let turn = store::begin(store, &rows[..d], &commits[..c], client);
-    let answer = turn.answer;
-    let next = turn.store;
+    let d = front(DATA_ROW * h.rows as usize, rows.len());
+    let c = front(COMMIT_ROW * h.rows as usize, commits.len());
+    let done = begins::begin(
+        h,
+        stage,
+        number,
+        snapshot,
+        request,
+        commit,
+        requestWaits,
+        commitWaits,
+        &rows[..d],
+        &commits[..c],
+        client,
+    );
+    let answer = done.answer;
     let used = reply::begun_line(out, at, Form::Begin(client), answer);
-    Answered { store: next, used }
+    let next = done.head;
+    Answered { head: next, used }
 }
 
 // The sixteen bytes that a read's answer names, none for any other answer.
@@ -110,7 +136,7 @@ fn value_read<'a>(rows: &'a [u8], answer: ReadAnswer) -> &'a [u8]
 {
     match answer {
         ReadAnswer::Answered(reading) => match reading {
-            Reading::Value(at) => store::value(rows, at),
+            Reading::Value(at) => reads::value(rows, at),
             Reading::Unwritten => &rows[0..0],
         },
         ReadAnswer::Refused(_) => &rows[0..0],
@@ -118,7 +144,10 @@ fn value_read<'a>(rows: &'a [u8], answer: ReadAnswer) -> &'a [u8]
 }
 
 fn read_said(
-    store: Store,
+    h: Head,
+    stage: &[u32; CLIENTS],
+    number: &[u32; CLIENTS],
+    snapshot: &[u32; CLIENTS],
     client: u32,
     cell: u32,
     rows: &[u8],
@@ -127,24 +156,31 @@ fn read_said(
     at: usize,
 ) -> Answered
     requires { ⌜ at + answerRoom ≤ length (now out) ⌝ }
-    ensures { λ r. ⌜ Spoken
-        (said (Form.Read client cell) (Read client cell) (memoryOf store (now (rows .entry)) (now (commits .entry))))
-        (memoryOf (r .store) (now (rows .entry)) (now (commits .entry)))
-        (now (out .entry)) at (now (out .exit)) (r .used) ⌝ }
+    ensures { λ r. ⌜ ((q m b w : List ℕ) → Says (said (Form.Read client cell) (Read client cell)) h
+        (columns stage number snapshot (unseen q) (unseen m) (unseen b) (unseen w)) rows commits out at r) ⌝ }
 {
-    let d = front(DATA_ROW * store.rows as usize, rows.len());
-    let c = front(COMMIT_ROW * store.rows as usize, commits.len());
-    let turn = store::read(store, &rows[..d], &commits[..c], client, cell);
-    let answer = turn.answer;
-    let next = turn.store;
+    let d = front(DATA_ROW * h.rows as usize, rows.len());
+    let c = front(COMMIT_ROW * h.rows as usize, commits.len());
+    let answer = reads::read(
+        h,
+        stage,
+        number,
+        snapshot,
+        &rows[..d],
+        &commits[..c],
+        client,
+        cell,
+    );
     let value = value_read(rows, answer);
     let used = reply::reading_line(out, at, Form::Read(client, cell), answer, value);
-    Answered { store: next, used }
+    Answered { head: h, used }
 }
 
 // place is that of the value's digits in the line.
 fn write_said(
-    store: Store,
+    h: Head,
+    stage: &[u32; CLIENTS],
+    number: &[u32; CLIENTS],
     client: u32,
     cell: u32,
     line: &[u8],
@@ -155,18 +191,23 @@ fn write_said(
     at: usize,
 ) -> Answered
     requires { ⌜ at + answerRoom ≤ length (now out) ⌝ }
-    ensures { λ r. ⌜ Spoken
-        (said (Form.Write client cell place) (Write client cell (valueIn (now (line .entry)) place))
-        (memoryOf store (now (rows .entry)) (now (commits .entry))))
-        (memoryOf (r .store) (now (rows .exit)) (now (commits .entry)))
-        (now (out .entry)) at (now (out .exit)) (r .used) ⌝ }
+    ensures { λ r. ⌜ ((s q m b w : List ℕ) → Says (said (Form.Write client cell place) (Write client cell (valueIn (now (line .entry)) place))) h
+        (columns stage number (unseen s) (unseen q) (unseen m) (unseen b) (unseen w)) rows commits out at r) ⌝ }
 {
-    let d = front(DATA_ROW * store.rows as usize, rows.len());
-    let c = front(COMMIT_ROW * store.rows as usize, commits.len());
+    let d = front(DATA_ROW * h.rows as usize, rows.len());
+    let c = front(COMMIT_ROW * h.rows as usize, commits.len());
     let value = text::value_in(line, place);
-    let turn = store::write(store, &mut rows[..d], &commits[..c], client, cell, &value);
-    let answer = turn.answer;
-    let next = turn.store;
+    let done = writes::write(
+        h,
+        stage,
+        number,
+        &mut rows[..d],
+        &commits[..c],
+        client,
+        cell,
+        &value,
+    );
+    let answer = done.answer;
     let used = reply::free_line(
         out,
         at,
@@ -177,11 +218,19 @@ fn write_said(
         },
         answer,
     );
-    Answered { store: next, used }
+    let next = done.head;
+    Answered { head: next, used }
 }
 
 fn advance_said(
-    store: Store,
+    h: Head,
+    stage: &mut [u32; CLIENTS],
+    number: &mut [u32; CLIENTS],
+    snapshot: &mut [u32; CLIENTS],
+    request: &mut [u32; CLIENTS],
+    commit: &mut [u32; CLIENTS],
+    requestWaits: &mut [Set; CLIENTS],
+    commitWaits: &mut [Set; CLIENTS],
     client: u32,
     rows: &mut [u8],
     commits: &mut [u8],
@@ -189,22 +238,39 @@ fn advance_said(
     at: usize,
 ) -> Answered
     requires { ⌜ at + answerRoom ≤ length (now out) ⌝ }
-    ensures { λ r. ⌜ Spoken
-        (said (Form.Advance client) (Advance client) (memoryOf store (now (rows .entry)) (now (commits .entry))))
-        (memoryOf (r .store) (now (rows .exit)) (now (commits .exit)))
-        (now (out .entry)) at (now (out .exit)) (r .used) ⌝ }
+    ensures { λ r. ⌜ Says (said (Form.Advance client) (Advance client)) h
+        (columns stage number snapshot request commit requestWaits commitWaits) rows commits out at r ⌝ }
 {
-    let d = front(DATA_ROW * store.rows as usize, rows.len());
-    let c = front(COMMIT_ROW * store.rows as usize, commits.len());
-    let turn = store::advance(store, &mut rows[..d], &mut commits[..c], client);
-    let answer = turn.answer;
-    let next = turn.store;
+    let d = front(DATA_ROW * h.rows as usize, rows.len());
+    let c = front(COMMIT_ROW * h.rows as usize, commits.len());
+    let done = advances::advance(
+        h,
+        stage,
+        number,
+        snapshot,
+        request,
+        commit,
+        requestWaits,
+        commitWaits,
+        &mut rows[..d],
+        &mut commits[..c],
+        client,
+    );
+    let answer = done.answer;
     let used = reply::progress_line(out, at, Form::Advance(client), answer);
-    Answered { store: next, used }
+    let next = done.head;
+    Answered { head: next, used }
 }
 
 fn abandon_said(
-    store: Store,
+    h: Head,
+    stage: &mut [u32; CLIENTS],
+    number: &mut [u32; CLIENTS],
+    snapshot: &mut [u32; CLIENTS],
+    request: &mut [u32; CLIENTS],
+    commit: &mut [u32; CLIENTS],
+    requestWaits: &mut [Set; CLIENTS],
+    commitWaits: &mut [Set; CLIENTS],
     client: u32,
     rows: &mut [u8],
     commits: &[u8],
@@ -212,62 +278,90 @@ fn abandon_said(
     at: usize,
 ) -> Answered
     requires { ⌜ at + answerRoom ≤ length (now out) ⌝ }
-    ensures { λ r. ⌜ Spoken
-        (said (Form.Abandon client) (Abandon client) (memoryOf store (now (rows .entry)) (now (commits .entry))))
-        (memoryOf (r .store) (now (rows .exit)) (now (commits .entry)))
-        (now (out .entry)) at (now (out .exit)) (r .used) ⌝ }
+    ensures { λ r. ⌜ Says (said (Form.Abandon client) (Abandon client)) h
+        (columns stage number snapshot request commit requestWaits commitWaits) rows commits out at r ⌝ }
 {
-    let d = front(DATA_ROW * store.rows as usize, rows.len());
-    let c = front(COMMIT_ROW * store.rows as usize, commits.len());
-    let turn = store::abandon(store, &mut rows[..d], &commits[..c], client);
-    let answer = turn.answer;
-    let next = turn.store;
+    let d = front(DATA_ROW * h.rows as usize, rows.len());
+    let c = front(COMMIT_ROW * h.rows as usize, commits.len());
+    let done = abandons::abandon(
+        h,
+        stage,
+        number,
+        snapshot,
+        request,
+        commit,
+        requestWaits,
+        commitWaits,
+        &mut rows[..d],
+        &commits[..c],
+        client,
+    );
+    let answer = done.answer;
     let used = reply::free_line(out, at, Form::Abandon(client), answer);
-    Answered { store: next, used }
+    let next = done.head;
+    Answered { head: next, used }
 }
 
 fn trim_said(
-    store: Store,
+    h: Head,
+    stage: &[u32; CLIENTS],
+    number: &[u32; CLIENTS],
+    snapshot: &[u32; CLIENTS],
     rows: &mut [u8],
     commits: &mut [u8],
     out: &mut [u8],
     at: usize,
 ) -> Answered
     requires { ⌜ at + answerRoom ≤ length (now out) ⌝ }
-    ensures { λ r. ⌜ Spoken
-        (said Form.Trim Trim (memoryOf store (now (rows .entry)) (now (commits .entry))))
-        (memoryOf (r .store) (now (rows .exit)) (now (commits .exit)))
-        (now (out .entry)) at (now (out .exit)) (r .used) ⌝ }
+    ensures { λ r. ⌜ ((q m b w : List ℕ) → Says (said Form.Trim Trim) h
+        (columns stage number snapshot (unseen q) (unseen m) (unseen b) (unseen w)) rows commits out at r) ⌝ }
 {
-    let d = front(DATA_ROW * store.rows as usize, rows.len());
-    let c = front(COMMIT_ROW * store.rows as usize, commits.len());
-    let turn = store::trim(store, &mut rows[..d], &mut commits[..c]);
-    let answer = turn.answer;
-    let next = turn.store;
+    let d = front(DATA_ROW * h.rows as usize, rows.len());
+    let c = front(COMMIT_ROW * h.rows as usize, commits.len());
+    let done = trims::trim(
+        h,
+        stage,
+        number,
+        snapshot,
+        &mut rows[..d],
+        &mut commits[..c],
+    );
+    let answer = done.answer;
     let used = reply::dropped_line(out, at, Form::Trim, answer);
-    Answered { store: next, used }
+    let next = done.head;
+    Answered { head: next, used }
 }
 
-fn free_said(store: Store, rows: &[u8], commits: &[u8], out: &mut [u8], at: usize) -> Answered
+fn free_said(
+    h: Head,
+    stage: &[u32; CLIENTS],
+    rows: &[u8],
+    commits: &[u8],
+    out: &mut [u8],
+    at: usize,
+) -> Answered
     requires { ⌜ at + answerRoom ≤ length (now out) ⌝ }
-    ensures { λ r. ⌜ Spoken
-        (said Form.Free Free (memoryOf store (now (rows .entry)) (now (commits .entry))))
-        (memoryOf (r .store) (now (rows .entry)) (now (commits .entry)))
-        (now (out .entry)) at (now (out .exit)) (r .used) ⌝ }
+    ensures { λ r. ⌜ ((n s q m b w : List ℕ) → Says (said Form.Free Free) h
+        (columns stage (unseen n) (unseen s) (unseen q) (unseen m) (unseen b) (unseen w)) rows commits out at r) ⌝ }
 {
-    let d = front(DATA_ROW * store.rows as usize, rows.len());
-    let c = front(COMMIT_ROW * store.rows as usize, commits.len());
-    let turn = store::free(store, &rows[..d], &commits[..c]);
-    let answer = turn.answer;
-    let next = turn.store;
+    let d = front(DATA_ROW * h.rows as usize, rows.len());
+    let c = front(COMMIT_ROW * h.rows as usize, commits.len());
+    let answer = reads::free(h, stage, &rows[..d], &commits[..c]);
     let used = reply::free_line(out, at, Form::Free, answer);
-    Answered { store: next, used }
+    Answered { head: h, used }
 }
 
 // ---- the answer to a line
 
 pub fn answer_line(
-    store: Store,
+    h: Head,
+    stage: &mut [u32; CLIENTS],
+    number: &mut [u32; CLIENTS],
+    snapshot: &mut [u32; CLIENTS],
+    request: &mut [u32; CLIENTS],
+    commit: &mut [u32; CLIENTS],
+    requestWaits: &mut [Set; CLIENTS],
+    commitWaits: &mut [Set; CLIENTS],
     line: &[u8],
     rows: &mut [u8],
     commits: &mut [u8],
@@ -275,10 +369,8 @@ pub fn answer_line(
     at: usize,
 ) -> Answered
     requires { ⌜ at + answerRoom ≤ length (now out) ⌝ }
-    ensures { λ r. ⌜ Spoken
-        (answerTo (now (line .entry)) (memoryOf store (now (rows .entry)) (now (commits .entry))))
-        (memoryOf (r .store) (now (rows .exit)) (now (commits .exit)))
-        (now (out .entry)) at (now (out .exit)) (r .used) ⌝ }
+    ensures { λ r. ⌜ Says (answerTo (now (line .entry))) h
+        (columns stage number snapshot request commit requestWaits commitWaits) rows commits out at r ⌝ }
 {
     let form = text::form_of(line);
     match form {
@@ -286,20 +378,101 @@ pub fn answer_line(
             rows: count,
             first,
             limit,
-        } => set_up_said(store, count, first, limit, rows, commits, out, at),
-        Form::Begin(client) => begin_said(store, client, rows, commits, out, at),
-        Form::Read(client, cell) => read_said(store, client, cell, rows, commits, out, at),
+        } => set_up_said(
+            h,
+            stage,
+            number,
+            snapshot,
+            request,
+            commit,
+            requestWaits,
+            commitWaits,
+            count,
+            first,
+            limit,
+            rows,
+            commits,
+            out,
+            at,
+        ),
+        Form::Begin(client) => begin_said(
+            h,
+            stage,
+            number,
+            snapshot,
+            request,
+            commit,
+            requestWaits,
+            commitWaits,
+            client,
+            rows,
+            commits,
+            out,
+            at,
+        ),
+        Form::Read(client, cell) => read_said(
+            h,
+            stage,
+            number,
+            snapshot,
+            client,
+            cell,
+            rows,
+            commits,
+            out,
+            at,
+        ),
         Form::Write {
             client,
             cell,
             value,
-        } => write_said(store, client, cell, line, value, rows, commits, out, at),
-        Form::Advance(client) => advance_said(store, client, rows, commits, out, at),
-        Form::Abandon(client) => abandon_said(store, client, rows, commits, out, at),
-        Form::Trim => trim_said(store, rows, commits, out, at),
-        Form::Free => free_said(store, rows, commits, out, at),
+        } => write_said(
+            h,
+            stage,
+            number,
+            client,
+            cell,
+            line,
+            value,
+            rows,
+            commits,
+            out,
+            at,
+        ),
+        Form::Advance(client) => advance_said(
+            h,
+            stage,
+            number,
+            snapshot,
+            request,
+            commit,
+            requestWaits,
+            commitWaits,
+            client,
+            rows,
+            commits,
+            out,
+            at,
+        ),
+        Form::Abandon(client) => abandon_said(
+            h,
+            stage,
+            number,
+            snapshot,
+            request,
+            commit,
+            requestWaits,
+            commitWaits,
+            client,
+            rows,
+            commits,
+            out,
+            at,
+        ),
+        Form::Trim => trim_said(h, stage, number, snapshot, rows, commits, out, at),
+        Form::Free => free_said(h, stage, rows, commits, out, at),
         Form::Other => Answered {
-            store,
+            head: h,
             used: reply::refused_line(out, at, Form::Other, 13),
         },
     }

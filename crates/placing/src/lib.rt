@@ -1,7 +1,8 @@
 // What a Write places: a row added, or a value replaced.
 ghost use mathlib.Core.Path.{_≡_};
 ghost use mathlib.Core.Bool.{true};
-ghost use Prim.Native.Nat.{_*_, _≤_, _<_};
+ghost use mathlib.Core.List.{List};
+ghost use Prim.Native.Nat.{ℕ, _*_, _≤_, _<_};
 ghost use lib.Dec.{leb};
 ghost use lib.ListN.{length, getD};
 ghost use Rattle.spec.specs.Set.{clients};
@@ -9,12 +10,12 @@ ghost use Rattle.spec.specs.Rows.{dataWidth, dataRowsIn, hasTag};
 ghost use Rattle.spec.specs.Share.{count, cellsOf};
 ghost use Rattle.spec.specs.Answers.{figureOf};
 ghost use Rattle.spec.specs.Calls.{added, replaced};
-ghost use Rattle.record.specs.Inner.{Transforms};
-ghost use Rattle.spec.specs.Bytes.{memoryOf, fits};
+ghost use Rattle.record.specs.Inner.{columns, unseen, Transforms};
+use record::FigureResult;
+use record::Head;
+use spec::CLIENTS;
 use spec::FigureAnswer;
-use spec::FigureTurn;
 use spec::Refusal;
-use spec::Store;
 
 // Whether the transaction wrote as many cells as it may; it has that many rows. Its cells are counted where its
 // rows are enough.
@@ -30,62 +31,57 @@ fn limit_reached(rows: &[u8], used: usize, number: u32, limit: u32, own: usize) 
     most <= search::count_cells(rows, used, number)
 }
 
-// A new data row behind the last in use.
+// A new data row behind the last in use; own is how many rows the transaction has.
 pub fn add_row(
-    store: Store,
+    h: Head,
+    number: &[u32; CLIENTS],
     rows: &mut [u8],
-    commits: &[u8],
     client: u32,
     cell: u32,
     value: &[u8],
     own: usize,
-) -> FigureTurn
-    requires { ⌜ fits store (length (now rows)) (length (now commits)) ≡ true ⌝ }
+) -> FigureResult
+    requires { ⌜ dataWidth * h .rows ≤ length (now rows) ⌝ }
+    requires { ⌜ h .used ≤ h .rows ⌝ }
     requires { ⌜ client < clients ⌝ }
     requires { ⌜ cell < 1024 ⌝ }
     requires { ⌜ length (now value) ≡ 16 ⌝ }
-    requires { ⌜ own ≡ count (hasTag (getD (store .number) client 0)) (dataRowsIn (store .used) (now rows)) ⌝ }
-    ensures { λ r. ⌜ Transforms (added client cell (now (value .entry)))
-        (memoryOf store (now (rows .entry)) (now (commits .entry)))
-        (memoryOf (r .store) (now (rows .exit)) (now (commits .entry))) (figureOf (r .answer)) ⌝ }
+    requires { ⌜ own ≡ count (hasTag (getD (now number) client 0)) (dataRowsIn (h .used) (now rows)) ⌝ }
+    ensures { λ r. ⌜ ((g s q m b w c : List ℕ) → Transforms (added client cell (now (value .entry))) h
+        (columns (unseen g) number (unseen s) (unseen q) (unseen m) (unseen b) (unseen w)) rows (unseen c)
+        (r .head) (figureOf (r .answer))) ⌝ }
 {
-    let used = store.used as usize;
+    let used = h.used as usize;
     let k = client as usize;
-    let numbers = store.number;
-    let number = numbers[k];
-    if limit_reached(rows, used, number, store.limit, own) {
-        return record::no_figure(store, Refusal::CellLimit);
+    let tag = number[k];
+    if limit_reached(rows, used, tag, h.limit, own) {
+        return record::no_figure(h, Refusal::CellLimit);
     }
-    if store.rows <= store.used {
-        return record::no_figure(store, Refusal::NoFreeRow);
+    if h.rows <= h.used {
+        return record::no_figure(h, Refusal::NoFreeRow);
     }
-    rows::append_row(rows, used, number, cell, value);
-    let mut next = store;
-    next.used = store.used + 1;
-    FigureTurn {
-        store: next,
+    rows::append_row(rows, used, tag, cell, value);
+    let mut next = h;
+    next.used = h.used + 1;
+    FigureResult {
+        head: next,
         answer: FigureAnswer::Answered(next.rows - next.used),
     }
 }
 
 // Another value in a data row in use.
-pub fn replace_row(
-    store: Store,
-    rows: &mut [u8],
-    commits: &[u8],
-    at: usize,
-    value: &[u8],
-) -> FigureTurn
-    requires { ⌜ fits store (length (now rows)) (length (now commits)) ≡ true ⌝ }
-    requires { ⌜ at < store .used ⌝ }
+pub fn replace_row(h: Head, rows: &mut [u8], at: usize, value: &[u8]) -> FigureResult
+    requires { ⌜ dataWidth * h .used ≤ length (now rows) ⌝ }
+    requires { ⌜ h .used ≤ h .rows ⌝ }
+    requires { ⌜ at < h .used ⌝ }
     requires { ⌜ length (now value) ≡ 16 ⌝ }
-    ensures { λ r. ⌜ Transforms (replaced at (now (value .entry)))
-        (memoryOf store (now (rows .entry)) (now (commits .entry)))
-        (memoryOf (r .store) (now (rows .exit)) (now (commits .entry))) (figureOf (r .answer)) ⌝ }
+    ensures { λ r. ⌜ ((g n s q m b w c : List ℕ) → Transforms (replaced at (now (value .entry))) h
+        (columns (unseen g) (unseen n) (unseen s) (unseen q) (unseen m) (unseen b) (unseen w)) rows (unseen c)
+        (r .head) (figureOf (r .answer))) ⌝ }
 {
     rows::replace_value(rows, at, value);
-    FigureTurn {
-        store,
-        answer: FigureAnswer::Answered(store.rows - store.used),
+    FigureResult {
+        head: h,
+        answer: FigureAnswer::Answered(h.rows - h.used),
     }
 }

@@ -1,21 +1,24 @@
-// The steps of Advance in the two queues: numbers taken and noted, lists made and looked at, queues left. Where a
-// step sees one buffer or none, its promise speaks of any other.
+// The steps of Advance in the two queues: numbers taken and noted, lists made and looked at, queues left. A step is
+// lent the columns and the buffer that it sees; its promise speaks of any others.
 ghost use mathlib.Core.Path.{_≡_};
-ghost use Prim.Native.Nat.{_*_, _≤_, _<_};
+ghost use mathlib.Core.List.{List};
+ghost use Prim.Native.Nat.{ℕ, _*_, _≤_, _<_};
 ghost use lib.ListN.{length};
 ghost use Rattle.spec.specs.Rows.{dataWidth};
 ghost use Rattle.spec.specs.Set.{clients};
 ghost use Rattle.spec.specs.Steps.{requestQueue, commitQueue, noteRequest, enterCommits, noteCommit, goOn};
 ghost use Rattle.spec.specs.Steps.{finished, takeRequest, listRequests, looked, lookRequests, takeCommit};
 ghost use Rattle.spec.specs.Steps.{listCommits, lookCommits, leaveCommits, leaveRequests};
-ghost use Rattle.queues.specs.Inner.{StepUnseen, StepOnRows};
+ghost use Rattle.record.specs.Inner.{columns, unseen};
+ghost use Rattle.queues.specs.Inner.{Step};
+use record::AdvanceResult;
+use record::Head;
 use spec::AdvanceAnswer;
-use spec::AdvanceTurn;
+use spec::CLIENTS;
 use spec::Progress;
 use spec::Queue;
 use spec::Refusal;
 use spec::Set;
-use spec::Store;
 use spec::TOP;
 
 // The request queue: entered at stage 0, the number noted at 2, left at 13.
@@ -40,209 +43,287 @@ fn commit_queue() -> Queue
     }
 }
 
-pub fn refuse(store: Store, refusal: Refusal) -> AdvanceTurn
-    ensures { λ r. ⌜ r ≡ record { store = store; answer = AdvanceAnswer.Refused refusal } ⌝ }
+pub fn refuse(h: Head, refusal: Refusal) -> AdvanceResult
+    ensures { λ r. ⌜ r ≡ record { head = h; answer = AdvanceAnswer.Refused refusal } ⌝ }
 {
-    AdvanceTurn {
-        store,
+    AdvanceResult {
+        head: h,
         answer: AdvanceAnswer::Refused(refusal),
     }
 }
 
 // The client goes on to a stage.
-pub fn go_on(store: Store, client: u32, stage: u32) -> AdvanceTurn
+pub fn go_on(h: Head, stage: &mut [u32; CLIENTS], client: u32, next: u32) -> AdvanceResult
     requires { ⌜ client < clients ⌝ }
-    ensures { λ r. ⌜ StepUnseen (goOn stage client) store r ⌝ }
+    ensures { λ r. ⌜ ((n s q m b w d c : List ℕ) → Step (goOn next client) h
+        (columns stage (unseen n) (unseen s) (unseen q) (unseen m) (unseen b) (unseen w))
+        (unseen d) (unseen c) r) ⌝ }
 {
     let k = client as usize;
-    let mut next = store;
-    let mut stages = store.stage;
-    stages[k] = stage;
-    next.stage = stages;
-    AdvanceTurn {
-        store: next,
-        answer: AdvanceAnswer::Answered(Progress::Stage(stage)),
+    stage[k] = next;
+    AdvanceResult {
+        head: h,
+        answer: AdvanceAnswer::Answered(Progress::Stage(next)),
     }
 }
 
 // The client is closed, with Done and a number.
-pub fn finish(store: Store, client: u32, number: u32) -> AdvanceTurn
+pub fn finish(
+    h: Head,
+    stage: &mut [u32; CLIENTS],
+    number: &mut [u32; CLIENTS],
+    snapshot: &mut [u32; CLIENTS],
+    request: &mut [u32; CLIENTS],
+    commit: &mut [u32; CLIENTS],
+    requestWaits: &mut [Set; CLIENTS],
+    commitWaits: &mut [Set; CLIENTS],
+    client: u32,
+    done: u32,
+) -> AdvanceResult
     requires { ⌜ client < clients ⌝ }
-    ensures { λ r. ⌜ StepUnseen (finished number client) store r ⌝ }
+    ensures { λ r. ⌜ ((d c : List ℕ) → Step (finished done client) h
+        (columns stage number snapshot request commit requestWaits commitWaits)
+        (unseen d) (unseen c) r) ⌝ }
 {
-    let closed = record::close(store, client);
-    AdvanceTurn {
-        store: closed,
-        answer: AdvanceAnswer::Answered(Progress::Done(number)),
+    record::close(
+        stage,
+        number,
+        snapshot,
+        request,
+        commit,
+        requestWaits,
+        commitWaits,
+        client,
+    );
+    AdvanceResult {
+        head: h,
+        answer: AdvanceAnswer::Answered(Progress::Done(done)),
     }
 }
 
 // 1: take a request number.
-pub fn take_request(store: Store, client: u32) -> AdvanceTurn
+pub fn take_request(
+    h: Head,
+    stage: &mut [u32; CLIENTS],
+    request: &mut [u32; CLIENTS],
+    client: u32,
+) -> AdvanceResult
     requires { ⌜ client < clients ⌝ }
-    ensures { λ r. ⌜ StepUnseen (takeRequest client) store r ⌝ }
+    ensures { λ r. ⌜ ((n s m b w d c : List ℕ) → Step (takeRequest client) h
+        (columns stage (unseen n) (unseen s) request (unseen m) (unseen b) (unseen w))
+        (unseen d) (unseen c) r) ⌝ }
 {
-    if store.requested == TOP {
-        return refuse(store, Refusal::Unfit);
+    if h.requested == TOP {
+        return refuse(h, Refusal::Unfit);
     }
     let k = client as usize;
-    let n = store.requested + 1;
-    let mut next = store;
-    let mut requests = store.request;
-    requests[k] = n;
+    let n = h.requested + 1;
+    let mut next = h;
     next.requested = n;
-    next.request = requests;
-    go_on(next, client, 2)
+    request[k] = n;
+    go_on(next, stage, client, 2)
 }
 
 // 2: note the request number in the queue row.
-pub fn note_request(store: Store, client: u32) -> AdvanceTurn
+pub fn note_request(h: Head, stage: &mut [u32; CLIENTS], client: u32) -> AdvanceResult
     requires { ⌜ client < clients ⌝ }
-    ensures { λ r. ⌜ StepUnseen (noteRequest client) store r ⌝ }
+    ensures { λ r. ⌜ ((n s q m b w d c : List ℕ) → Step (noteRequest client) h
+        (columns stage (unseen n) (unseen s) (unseen q) (unseen m) (unseen b) (unseen w))
+        (unseen d) (unseen c) r) ⌝ }
 {
-    go_on(store, client, 3)
+    go_on(h, stage, client, 3)
 }
 
 // 3: list the other queue rows that share a cell, once.
-pub fn list_requests(store: Store, rows: &[u8], client: u32) -> AdvanceTurn
+pub fn list_requests(
+    h: Head,
+    stage: &mut [u32; CLIENTS],
+    number: &[u32; CLIENTS],
+    requestWaits: &mut [Set; CLIENTS],
+    rows: &[u8],
+    client: u32,
+) -> AdvanceResult
     requires { ⌜ client < clients ⌝ }
-    requires { ⌜ dataWidth * store .used ≤ length (now rows) ⌝ }
-    ensures { λ r. ⌜ StepOnRows (listRequests client) store (now (rows .entry)) r (now (rows .entry)) ⌝ }
+    requires { ⌜ dataWidth * h .used ≤ length (now rows) ⌝ }
+    ensures { λ r. ⌜ ((s q m w c : List ℕ) → Step (listRequests client) h
+        (columns stage number (unseen s) (unseen q) (unseen m) requestWaits (unseen w))
+        rows (unseen c) r) ⌝ }
 {
     let queue = request_queue();
     let k = client as usize;
-    let numbers = store.number;
-    let number = numbers[k];
-    let used = store.used as usize;
-    let stages = store.stage;
-    let queued = waiting::others(queue, &stages, client);
-    let mut next = store;
-    let mut request_waits = store.requestWaits;
-    request_waits[k] = search::sharers(rows, used, number, &numbers, queued);
-    next.requestWaits = request_waits;
-    go_on(next, client, 4)
+    let own = number[k];
+    let used = h.used as usize;
+    let queued = waiting::others(queue, stage, client);
+    requestWaits[k] = search::sharers(rows, used, own, number, queued);
+    go_on(h, stage, client, 4)
 }
 
 // What a look that leaves a list comes to: the next stage if none is left on it, else how many are.
-fn looked(store: Store, client: u32, list: Set, stage: u32) -> AdvanceTurn
+fn looked(h: Head, stage: &mut [u32; CLIENTS], client: u32, list: Set, next: u32) -> AdvanceResult
     requires { ⌜ client < clients ⌝ }
-    ensures { λ r. ⌜ StepUnseen (looked stage client list) store r ⌝ }
+    ensures { λ r. ⌜ ((n s q m b w d c : List ℕ) → Step (looked next client list) h
+        (columns stage (unseen n) (unseen s) (unseen q) (unseen m) (unseen b) (unseen w))
+        (unseen d) (unseen c) r) ⌝ }
 {
     if list == 0 {
-        return go_on(store, client, stage);
+        return go_on(h, stage, client, next);
     }
-    AdvanceTurn {
-        store,
+    AdvanceResult {
+        head: h,
         answer: AdvanceAnswer::Answered(Progress::Waiting(sets::count(list))),
     }
 }
 
 // 4: look at the request queue.
-pub fn look_requests(store: Store, client: u32) -> AdvanceTurn
+pub fn look_requests(
+    h: Head,
+    stage: &mut [u32; CLIENTS],
+    request: &[u32; CLIENTS],
+    requestWaits: &mut [Set; CLIENTS],
+    client: u32,
+) -> AdvanceResult
     requires { ⌜ client < clients ⌝ }
-    ensures { λ r. ⌜ StepUnseen (lookRequests client) store r ⌝ }
+    ensures { λ r. ⌜ ((n s m w d c : List ℕ) → Step (lookRequests client) h
+        (columns stage (unseen n) (unseen s) request (unseen m) requestWaits (unseen w))
+        (unseen d) (unseen c) r) ⌝ }
 {
     let queue = request_queue();
     let k = client as usize;
-    let stages = store.stage;
-    let requests = store.request;
-    let own = requests[k];
-    let mut next = store;
-    let mut request_waits = store.requestWaits;
-    let before = request_waits[k];
-    let list = waiting::look(queue, own, &stages, &requests, before);
-    request_waits[k] = list;
-    next.requestWaits = request_waits;
-    looked(next, client, list, 5)
+    let own = request[k];
+    let before = requestWaits[k];
+    let list = waiting::look(queue, own, stage, request, before);
+    requestWaits[k] = list;
+    looked(h, stage, client, list, 5)
 }
 
 // 6: enter the commit queue.
-pub fn enter_commits(store: Store, client: u32) -> AdvanceTurn
+pub fn enter_commits(h: Head, stage: &mut [u32; CLIENTS], client: u32) -> AdvanceResult
     requires { ⌜ client < clients ⌝ }
-    ensures { λ r. ⌜ StepUnseen (enterCommits client) store r ⌝ }
+    ensures { λ r. ⌜ ((n s q m b w d c : List ℕ) → Step (enterCommits client) h
+        (columns stage (unseen n) (unseen s) (unseen q) (unseen m) (unseen b) (unseen w))
+        (unseen d) (unseen c) r) ⌝ }
 {
-    go_on(store, client, 7)
+    go_on(h, stage, client, 7)
 }
 
 // 7: take a commit number.
-pub fn take_commit(store: Store, client: u32) -> AdvanceTurn
+pub fn take_commit(
+    h: Head,
+    stage: &mut [u32; CLIENTS],
+    commit: &mut [u32; CLIENTS],
+    client: u32,
+) -> AdvanceResult
     requires { ⌜ client < clients ⌝ }
-    ensures { λ r. ⌜ StepUnseen (takeCommit client) store r ⌝ }
+    ensures { λ r. ⌜ ((n s q b w d c : List ℕ) → Step (takeCommit client) h
+        (columns stage (unseen n) (unseen s) (unseen q) commit (unseen b) (unseen w))
+        (unseen d) (unseen c) r) ⌝ }
 {
-    if store.taken == TOP {
-        return refuse(store, Refusal::Unfit);
+    if h.taken == TOP {
+        return refuse(h, Refusal::Unfit);
     }
     let k = client as usize;
-    let n = store.taken + 1;
-    let mut next = store;
-    let mut commits = store.commit;
-    commits[k] = n;
+    let n = h.taken + 1;
+    let mut next = h;
     next.taken = n;
-    next.commit = commits;
-    go_on(next, client, 8)
+    commit[k] = n;
+    go_on(next, stage, client, 8)
 }
 
 // 8: note the commit number.
-pub fn note_commit(store: Store, client: u32) -> AdvanceTurn
+pub fn note_commit(h: Head, stage: &mut [u32; CLIENTS], client: u32) -> AdvanceResult
     requires { ⌜ client < clients ⌝ }
-    ensures { λ r. ⌜ StepUnseen (noteCommit client) store r ⌝ }
+    ensures { λ r. ⌜ ((n s q m b w d c : List ℕ) → Step (noteCommit client) h
+        (columns stage (unseen n) (unseen s) (unseen q) (unseen m) (unseen b) (unseen w))
+        (unseen d) (unseen c) r) ⌝ }
 {
-    go_on(store, client, 9)
+    go_on(h, stage, client, 9)
 }
 
 // 9: list all other commit queue rows, once.
-pub fn list_commits(store: Store, client: u32) -> AdvanceTurn
+pub fn list_commits(
+    h: Head,
+    stage: &mut [u32; CLIENTS],
+    commitWaits: &mut [Set; CLIENTS],
+    client: u32,
+) -> AdvanceResult
     requires { ⌜ client < clients ⌝ }
-    ensures { λ r. ⌜ StepUnseen (listCommits client) store r ⌝ }
+    ensures { λ r. ⌜ ((n s q m b d c : List ℕ) → Step (listCommits client) h
+        (columns stage (unseen n) (unseen s) (unseen q) (unseen m) (unseen b) commitWaits)
+        (unseen d) (unseen c) r) ⌝ }
 {
     let queue = commit_queue();
     let k = client as usize;
-    let stages = store.stage;
-    let mut next = store;
-    let mut lists = store.commitWaits;
-    lists[k] = waiting::others(queue, &stages, client);
-    next.commitWaits = lists;
-    go_on(next, client, 10)
+    commitWaits[k] = waiting::others(queue, stage, client);
+    go_on(h, stage, client, 10)
 }
 
 // 10: look at the commit queue.
-pub fn look_commits(store: Store, client: u32) -> AdvanceTurn
+pub fn look_commits(
+    h: Head,
+    stage: &mut [u32; CLIENTS],
+    commit: &[u32; CLIENTS],
+    commitWaits: &mut [Set; CLIENTS],
+    client: u32,
+) -> AdvanceResult
     requires { ⌜ client < clients ⌝ }
-    ensures { λ r. ⌜ StepUnseen (lookCommits client) store r ⌝ }
+    ensures { λ r. ⌜ ((n s q b d c : List ℕ) → Step (lookCommits client) h
+        (columns stage (unseen n) (unseen s) (unseen q) commit (unseen b) commitWaits)
+        (unseen d) (unseen c) r) ⌝ }
 {
     let queue = commit_queue();
     let k = client as usize;
-    let stages = store.stage;
-    let noted = store.commit;
-    let own = noted[k];
-    let mut next = store;
-    let mut lists = store.commitWaits;
-    let before = lists[k];
-    let list = waiting::look(queue, own, &stages, &noted, before);
-    lists[k] = list;
-    next.commitWaits = lists;
-    looked(next, client, list, 11)
+    let own = commit[k];
+    let before = commitWaits[k];
+    let list = waiting::look(queue, own, stage, commit, before);
+    commitWaits[k] = list;
+    looked(h, stage, client, list, 11)
 }
 
 // 12: leave the commit queue.
-pub fn leave_commits(store: Store, client: u32) -> AdvanceTurn
+pub fn leave_commits(
+    h: Head,
+    stage: &mut [u32; CLIENTS],
+    commitWaits: &mut [Set; CLIENTS],
+    client: u32,
+) -> AdvanceResult
     requires { ⌜ client < clients ⌝ }
-    ensures { λ r. ⌜ StepUnseen (leaveCommits client) store r ⌝ }
+    ensures { λ r. ⌜ ((n s q m b d c : List ℕ) → Step (leaveCommits client) h
+        (columns stage (unseen n) (unseen s) (unseen q) (unseen m) (unseen b) commitWaits)
+        (unseen d) (unseen c) r) ⌝ }
 {
-    let commit_waits = store.commitWaits;
-    let lists = waiting::clear_all(commit_waits, client);
-    let mut next = store;
-    next.commitWaits = lists;
-    go_on(next, client, 13)
+    *commitWaits = waiting::clear_all(*commitWaits, client);
+    go_on(h, stage, client, 13)
 }
 
 // 13: leave the request queue; closed.
-pub fn leave_requests(store: Store, client: u32) -> AdvanceTurn
+pub fn leave_requests(
+    h: Head,
+    stage: &mut [u32; CLIENTS],
+    number: &mut [u32; CLIENTS],
+    snapshot: &mut [u32; CLIENTS],
+    request: &mut [u32; CLIENTS],
+    commit: &mut [u32; CLIENTS],
+    requestWaits: &mut [Set; CLIENTS],
+    commitWaits: &mut [Set; CLIENTS],
+    client: u32,
+) -> AdvanceResult
     requires { ⌜ client < clients ⌝ }
-    ensures { λ r. ⌜ StepUnseen (leaveRequests client) store r ⌝ }
+    ensures { λ r. ⌜ ((d c : List ℕ) → Step (leaveRequests client) h
+        (columns stage number snapshot request commit requestWaits commitWaits)
+        (unseen d) (unseen c) r) ⌝ }
 {
     let k = client as usize;
-    let commits = store.commit;
-    let n = commits[k];
-    finish(store, client, n)
+    let done = commit[k];
+    finish(
+        h,
+        stage,
+        number,
+        snapshot,
+        request,
+        commit,
+        requestWaits,
+        commitWaits,
+        client,
+        done,
+    )
 }

@@ -1,68 +1,62 @@
-// Read, and the sixteen bytes that it finds.
+// Read and the sixteen bytes that it finds, and Free: what only looks.
 ghost use mathlib.Core.Path.{_≡_};
-ghost use Rattle.spec.specs.Answers.{readOf};
-ghost use Rattle.spec.specs.Calls.{read};
-ghost use Rattle.spec.specs.Bytes.{memoryOf, Performs, onBytes};
-ghost use Rattle.spec.specs.Values.{valueRead, valueFrom};
+ghost use mathlib.Core.List.{List};
+ghost use Prim.Native.Nat.{ℕ};
+ghost use Rattle.spec.specs.Answers.{figureOf, readOf};
+ghost use Rattle.spec.specs.Calls.{free, read};
+ghost use Rattle.spec.specs.Values.{valueRead};
+ghost use Rattle.record.specs.Inner.{columns, unseen, PerformsOn};
+use record::Head;
 use spec::CELLS;
+use spec::CLIENTS;
 use spec::DATA_ROW;
+use spec::FigureAnswer;
 use spec::LIMIT;
 use spec::Lookup;
 use spec::ReadAnswer;
-use spec::ReadTurn;
 use spec::Reading;
 use spec::Refusal;
-use spec::Store;
-
-fn no_read(store: Store, refusal: Refusal) -> ReadTurn
-    ensures { λ r. ⌜ r ≡ record { store = store; answer = ReadAnswer.Refused refusal } ⌝ }
-{
-    ReadTurn {
-        store,
-        answer: ReadAnswer::Refused(refusal),
-    }
-}
 
 // Read answers in which data row the value stands: `value` hands its sixteen bytes back. It answers until the
 // commit is made, at stage 12.
-pub fn read(store: Store, rows: &[u8], commits: &[u8], client: u32, cell: u32) -> ReadTurn
-    ensures { λ r. ⌜ Performs (read client cell)
-        (memoryOf store (now (rows .entry)) (now (commits .entry)))
-        (memoryOf (r .store) (now (rows .entry)) (now (commits .entry))) (readOf (r .answer)) ⌝ }
+pub fn read(
+    h: Head,
+    stage: &[u32; CLIENTS],
+    number: &[u32; CLIENTS],
+    snapshot: &[u32; CLIENTS],
+    rows: &[u8],
+    commits: &[u8],
+    client: u32,
+    cell: u32,
+) -> ReadAnswer
+    ensures { λ r. ⌜ ((q m b w : List ℕ) → PerformsOn (read client cell) h
+        (columns stage number snapshot (unseen q) (unseen m) (unseen b) (unseen w)) rows commits
+        h (readOf r)) ⌝ }
 {
-    if !record::fit(store, rows.len(), commits.len()) {
-        return no_read(store, Refusal::Unfit);
+    if !record::fit(h, stage, rows.len(), commits.len()) {
+        return ReadAnswer::Refused(Refusal::Unfit);
     }
     if LIMIT <= client {
-        return no_read(store, Refusal::NoClient);
+        return ReadAnswer::Refused(Refusal::NoClient);
     }
     if CELLS <= cell {
-        return no_read(store, Refusal::NoCell);
+        return ReadAnswer::Refused(Refusal::NoCell);
     }
     let k = client as usize;
-    let numbers = store.number;
-    let number = numbers[k];
-    if number == 0 {
-        return no_read(store, Refusal::NotOpen);
+    let own = number[k];
+    if own == 0 {
+        return ReadAnswer::Refused(Refusal::NotOpen);
     }
-    let stages = store.stage;
-    if 11 < stages[k] {
-        return no_read(store, Refusal::WrongStage);
+    if 11 < stage[k] {
+        return ReadAnswer::Refused(Refusal::WrongStage);
     }
-    let used = store.used as usize;
-    let entries = store.entries as usize;
-    let snapshots = store.snapshot;
-    let snapshot = snapshots[k];
-    let seen = search::look_for(rows, used, commits, entries, number, cell, snapshot);
+    let used = h.used as usize;
+    let entries = h.entries as usize;
+    let since = snapshot[k];
+    let seen = search::look_for(rows, used, commits, entries, own, cell, since);
     match seen {
-        Lookup::Version { at, number: _ } => ReadTurn {
-            store,
-            answer: ReadAnswer::Answered(Reading::Value(at)),
-        },
-        Lookup::Nothing => ReadTurn {
-            store,
-            answer: ReadAnswer::Answered(Reading::Unwritten),
-        },
+        Lookup::Version { at, number: _ } => ReadAnswer::Answered(Reading::Value(at)),
+        Lookup::Nothing => ReadAnswer::Answered(Reading::Unwritten),
     }
 }
 
@@ -76,19 +70,14 @@ pub fn value<'a>(rows: &'a [u8], at: usize) -> &'a [u8]
     rows::value_at(rows, at)
 }
 
-// The sixteen bytes that a read finds, as they stand in the data buffer; none where it is refused or the cell is
-// unwritten.
-pub fn lookup<'a>(store: Store, rows: &'a [u8], commits: &[u8], client: u32, cell: u32) -> &'a [u8]
-    ensures { λ r. ⌜ now r ≡ valueFrom (now (rows .entry))
-        (onBytes (read client cell) store (now (rows .entry)) (now (commits .entry)) .answer) ⌝ }
+// Free answers how many data rows are not in use.
+pub fn free(h: Head, stage: &[u32; CLIENTS], rows: &[u8], commits: &[u8]) -> FigureAnswer
+    ensures { λ r. ⌜ ((n s q m b w : List ℕ) → PerformsOn free h
+        (columns stage (unseen n) (unseen s) (unseen q) (unseen m) (unseen b) (unseen w)) rows commits
+        h (figureOf r)) ⌝ }
 {
-    let turn = read(store, rows, commits, client, cell);
-    let answer = turn.answer;
-    match answer {
-        ReadAnswer::Answered(reading) => match reading {
-            Reading::Value(at) => value(rows, at),
-            Reading::Unwritten => &rows[0..0],
-        },
-        ReadAnswer::Refused(_) => &rows[0..0],
+    if !record::fit(h, stage, rows.len(), commits.len()) {
+        return FigureAnswer::Refused(Refusal::Unfit);
     }
+    FigureAnswer::Answered(h.rows - h.used)
 }

@@ -2,22 +2,76 @@
 -- Assumes nothing.
 use Prim.Native.Nat.{ℕ}
 use mathlib.Core.Path.{_≡_}
+use mathlib.Core.Bool.{Bool}
 use mathlib.Core.List.{List}
+use denote.Ref.{RefT}
+use denote.Triple.Both.{Both}
 use Rattle.spec.specs.Set.{clients}
 use Rattle.spec.specs.Numbers.{smallest}
 use Rattle.spec.specs.declared.Number.{Number}
+use Rattle.spec.specs.declared.Store.{Store}
 use Rattle.spec.specs.Answers.{Answer}
-use Rattle.spec.specs.Image.{Image}
-use Rattle.spec.specs.Calls.{Outcome, readers}
-use Rattle.spec.specs.Bytes.{decode, Memory, afterOf, encode}
+use Rattle.spec.specs.Image.{countersOf, Clients, clientsOf, Image}
+use Rattle.spec.specs.Calls.{Outcome, readers, low}
+use Rattle.spec.specs.Bytes.{recordOf, decode, Memory, memoryOf, afterOf, encode, fits, Performs}
+use Rattle.record.specs.declared.Head.{Head}
 
--- the promise of a call's inner part, where the store is known to be fit: from the memory m to m′ and the answer a, as the definition f says
-abbrev pub Transforms : {A : Type 0} → (Image → Outcome A) → Memory → Memory → Answer A → Type 0
-Transforms f m m′ a =
-    afterOf (m′ .store) (m′ .dataBytes) (m′ .commitBytes) a
-    ≡ encode (m .store) (m .dataBytes) (m .commitBytes) (f (decode (m .store) (m .dataBytes) (m .commitBytes)))
+-- ---- A record apart, as the code has it: its eight numbers by value, and its arrays by client lent, a column each.
+
+-- the record of these numbers and columns
+abbrev pub whole : Head → Clients → Store
+whole h k = recordOf (h .rows) (h .limit) (countersOf (h .issued) (h .requested) (h .taken) (h .last)) k (h .used) (h .entries)
+
+-- a lent list, as a contract sees it: before and after
+abbrev pub Lent : Type 0
+Lent = Both (RefT (List ℕ)) (RefT (List ℕ))
+
+-- a list that a function is not lent, and does not change
+abbrev pub unseen : List ℕ → Lent
+unseen l = record { entry = record { ptr = (0, 0); name = 0; now = l }; exit = record { ptr = (0, 0); name = 0; now = l } }
+
+-- the columns where a contract sees them once
+abbrev pub held : RefT (List ℕ) → RefT (List ℕ) → RefT (List ℕ) → RefT (List ℕ) → RefT (List ℕ) → RefT (List ℕ) → RefT (List ℕ) → Clients
+held g n s q m r w = clientsOf (g .now) (n .now) (s .now) (q .now) (m .now) (r .now) (w .now)
+
+-- all columns, before and after
+abbrev pub columns : Lent → Lent → Lent → Lent → Lent → Lent → Lent → Both Clients Clients
+columns g n s q m r w = record {
+  entry = held (g .entry) (n .entry) (s .entry) (q .entry) (m .entry) (r .entry) (w .entry);
+  exit = held (g .exit) (n .exit) (s .exit) (q .exit) (m .exit) (r .exit) (w .exit);
+}
+
+-- the memory of numbers, columns and lent buffers, before and after
+abbrev pub memoryFound : Head → Both Clients Clients → Lent → Lent → Memory
+memoryFound h k d c = memoryOf (whole h (k .entry)) (d .entry .now) (c .entry .now)
+
+abbrev pub memoryLeft : Head → Both Clients Clients → Lent → Lent → Memory
+memoryLeft h k d c = memoryOf (whole h (k .exit)) (d .exit .now) (c .exit .now)
+
+-- ---- The promises of calls on a record apart.
+
+-- of a call: it has found numbers h, and left h′ and the answer a, as its definition f says
+abbrev pub PerformsOn : {A : Type 0} → (Image → Outcome A) → Head → Both Clients Clients → Lent → Lent → Head → Answer A → Type 0
+PerformsOn f h k d c h′ a = Performs f (memoryFound h k d c) (memoryLeft h′ k d c) a
+
+-- of a call's inner part, where the store is known to be fit
+abbrev pub Transforms : {A : Type 0} → (Image → Outcome A) → Head → Both Clients Clients → Lent → Lent → Head → Answer A → Type 0
+Transforms f h k d c h′ a =
+    afterOf (whole h′ (k .exit)) (d .exit .now) (c .exit .now) a
+    ≡ encode (whole h (k .entry)) (d .entry .now) (c .entry .now) (f (decode (whole h (k .entry)) (d .entry .now) (c .entry .now)))
+
+-- ---- What is seen in some of the columns, whatever the others hold.
+
+-- r says whether the store is fit, for buffers of d and c bytes
+abbrev pub Suits : Head → List ℕ → ℕ → ℕ → Bool → Type 0
+Suits h stage d c r = (n s q m b w : List ℕ) → r ≡ fits (whole h (clientsOf stage n s q m b w)) d c
 
 -- the smallest snapshot of the open clients, by their arrays alone
 abbrev pub SmallestOpen : List ℕ → List ℕ → Number → Type 0
 SmallestOpen numbers snapshots r =
     (x : Image) → x .clients .number ≡ numbers → x .clients .snapshot ≡ snapshots → r ≡ smallest (readers x clients)
+
+-- Trim's low
+abbrev pub Lowest : Head → List ℕ → List ℕ → ℕ → Type 0
+Lowest h number snapshot r =
+    (g q m b w d c : List ℕ) → r ≡ low (decode (whole h (clientsOf g number snapshot q m b w)) d c)

@@ -1,4 +1,5 @@
-// The record by value: fitness, a new record, closing a client, Trim's low.
+// The record apart: its eight numbers by value, and its arrays by client lent, a column each. Fitness, a new record,
+// closing a client, Trim's low; and how a record by value comes apart and together.
 ghost use mathlib.Core.Path.{_≡_};
 ghost use mathlib.Core.Bool.{not};
 ghost use mathlib.Core.List.{List};
@@ -6,58 +7,135 @@ ghost use lib.Dec.{eqb};
 ghost use Prim.Native.Nat.{ℕ, _<_};
 ghost use Rattle.spec.specs.Set.{clients};
 ghost use Rattle.spec.specs.Choice.{if_then_else_};
-ghost use Rattle.spec.specs.Image.{closed, empty};
-ghost use Rattle.spec.specs.Calls.{low};
-ghost use Rattle.record.specs.Inner.{SmallestOpen};
-ghost use Rattle.spec.specs.Bytes.{countersIn, clientsIn, recordOf, decode, storeOf, known, fits};
+ghost use Rattle.spec.specs.Image.{closed, clientsOf, empty};
+ghost use Rattle.spec.specs.Bytes.{clientsIn, storeOf, known};
+ghost use Rattle.record.specs.Inner.{whole, columns, Suits, SmallestOpen, Lowest};
+use spec::AdvanceAnswer;
 use spec::CLIENTS;
 use spec::COMMIT_ROW;
 use spec::DATA_ROW;
 use spec::FigureAnswer;
-use spec::FigureTurn;
 use spec::Number;
 use spec::Refusal;
+use spec::Set;
 use spec::Store;
 
-// Whether all stages are known ones, 0 to 13.
-fn stages_known(stage: &[u32; CLIENTS]) -> bool
-    ensures { λ r. ⌜ r ≡ known (now (stage .entry)) clients ⌝ }
-{
-    let mut ok = true;
-    for i in 0..CLIENTS {
-        if 13 < stage[i] {
-            ok = false;
-        }
-    }
-    ok
+// The numbers of a record. Its arrays by client are lent beside them.
+pub struct Head {
+    pub rows: u32,
+    pub limit: u32,
+    pub issued: u32,
+    pub requested: u32,
+    pub taken: u32,
+    pub last: u32,
+    pub used: u32,
+    pub entries: u32,
 }
 
-// Whether the store is fit for buffers of these lengths.
-pub fn fit(store: Store, d: usize, c: usize) -> bool
-    ensures { λ r. ⌜ r ≡ fits store d c ⌝ }
+// The numbers that a call leaves, and its answer: a figure, or what Advance answers.
+pub struct FigureResult {
+    pub head: Head,
+    pub answer: FigureAnswer,
+}
+
+pub struct AdvanceResult {
+    pub head: Head,
+    pub answer: AdvanceAnswer,
+}
+
+// ---- a record by value, and apart
+
+pub fn head_of(store: Store) -> Head
+    ensures { λ r. ⌜ whole r (clientsIn store) ≡ store ⌝ }
 {
-    let rows = store.rows;
-    if rows < 1 {
-        return false;
+    Head {
+        rows: store.rows,
+        limit: store.limit,
+        issued: store.issued,
+        requested: store.requested,
+        taken: store.taken,
+        last: store.last,
+        used: store.used,
+        entries: store.entries,
     }
-    if 1024 < rows {
-        return false;
+}
+
+// The record of these numbers and columns.
+pub fn joined(
+    h: Head,
+    stage: [u32; CLIENTS],
+    number: [u32; CLIENTS],
+    snapshot: [u32; CLIENTS],
+    request: [u32; CLIENTS],
+    commit: [u32; CLIENTS],
+    requestWaits: [Set; CLIENTS],
+    commitWaits: [Set; CLIENTS],
+) -> Store
+    ensures { λ r. ⌜ r ≡ whole h (clientsOf stage number snapshot request commit requestWaits commitWaits) ⌝ }
+{
+    Store {
+        rows: h.rows,
+        limit: h.limit,
+        issued: h.issued,
+        requested: h.requested,
+        taken: h.taken,
+        last: h.last,
+        used: h.used,
+        entries: h.entries,
+        stage,
+        number,
+        snapshot,
+        request,
+        commit,
+        requestWaits,
+        commitWaits,
     }
-    let wide = rows as usize;
-    if d != DATA_ROW * wide {
-        return false;
-    }
-    if c != COMMIT_ROW * wide {
-        return false;
-    }
-    if rows < store.used {
-        return false;
-    }
-    if rows < store.entries {
-        return false;
-    }
+}
+
+// The record with other numbers.
+pub fn renumbered(store: Store, h: Head) -> Store
+    ensures { λ r. ⌜ r ≡ whole h (clientsIn store) ⌝ }
+{
+    let mut next = store;
+    next.rows = h.rows;
+    next.limit = h.limit;
+    next.issued = h.issued;
+    next.requested = h.requested;
+    next.taken = h.taken;
+    next.last = h.last;
+    next.used = h.used;
+    next.entries = h.entries;
+    next
+}
+
+// The columns become those of a record; its numbers are handed back.
+pub fn spread(
+    store: Store,
+    stage: &mut [u32; CLIENTS],
+    number: &mut [u32; CLIENTS],
+    snapshot: &mut [u32; CLIENTS],
+    request: &mut [u32; CLIENTS],
+    commit: &mut [u32; CLIENTS],
+    requestWaits: &mut [Set; CLIENTS],
+    commitWaits: &mut [Set; CLIENTS],
+) -> Head
+    ensures { λ r. ⌜ whole r (columns stage number snapshot request commit requestWaits commitWaits .exit) ≡ store ⌝ }
+{
     let stages = store.stage;
-    stages_known(&stages)
+    *stage = stages;
+    let numbers = store.number;
+    *number = numbers;
+    let snapshots = store.snapshot;
+    *snapshot = snapshots;
+    let requests = store.request;
+    *request = requests;
+    let commits = store.commit;
+    *commit = commits;
+    let request_waits = store.requestWaits;
+    *requestWaits = request_waits;
+    let commit_waits = store.commitWaits;
+    *commitWaits = commit_waits;
+    head_of(store)
 }
 
 // A record with nothing open and no row in use.
@@ -83,38 +161,75 @@ pub fn fresh(rows: u32, limit: u32, issued: u32) -> Store
     }
 }
 
+// ---- fitness
+
+// Whether all stages are known ones, 0 to 13.
+fn stages_known(stage: &[u32; CLIENTS]) -> bool
+    ensures { λ r. ⌜ r ≡ known (now (stage .entry)) clients ⌝ }
+{
+    let mut ok = true;
+    for i in 0..CLIENTS {
+        if 13 < stage[i] {
+            ok = false;
+        }
+    }
+    ok
+}
+
+// Whether the store is fit for buffers of these lengths.
+pub fn fit(h: Head, stage: &[u32; CLIENTS], d: usize, c: usize) -> bool
+    ensures { λ r. ⌜ Suits h (now (stage .entry)) d c r ⌝ }
+{
+    let rows = h.rows;
+    if rows < 1 {
+        return false;
+    }
+    if 1024 < rows {
+        return false;
+    }
+    let wide = rows as usize;
+    if d != DATA_ROW * wide {
+        return false;
+    }
+    if c != COMMIT_ROW * wide {
+        return false;
+    }
+    if rows < h.used {
+        return false;
+    }
+    if rows < h.entries {
+        return false;
+    }
+    stages_known(stage)
+}
+
+// ---- closing a client
+
 // The client closed: its fields zero, and its bit cleared in each waiting list.
-pub fn close(store: Store, client: u32) -> Store
+pub fn close(
+    stage: &mut [u32; CLIENTS],
+    number: &mut [u32; CLIENTS],
+    snapshot: &mut [u32; CLIENTS],
+    request: &mut [u32; CLIENTS],
+    commit: &mut [u32; CLIENTS],
+    requestWaits: &mut [Set; CLIENTS],
+    commitWaits: &mut [Set; CLIENTS],
+    client: u32,
+)
     requires { ⌜ client < clients ⌝ }
-    ensures { λ r. ⌜ r ≡ recordOf (store .rows) (store .limit) (countersIn store) (closed client (clientsIn store))
-        (store .used) (store .entries) ⌝ }
+    ensures { λ _. ⌜ columns stage number snapshot request commit requestWaits commitWaits .exit
+        ≡ closed client (columns stage number snapshot request commit requestWaits commitWaits .entry) ⌝ }
 {
     let k = client as usize;
-    let mut stages = store.stage;
-    stages[k] = 0;
-    let mut numbers = store.number;
-    numbers[k] = 0;
-    let mut snapshots = store.snapshot;
-    snapshots[k] = 0;
-    let mut requests = store.request;
-    requests[k] = 0;
-    let mut commits = store.commit;
-    commits[k] = 0;
-    let request_waits = store.requestWaits;
-    let mut request_waits_left = waiting::clear_all(request_waits, client);
-    request_waits_left[k] = 0;
-    let commit_waits = store.commitWaits;
-    let mut commit_waits_left = waiting::clear_all(commit_waits, client);
-    commit_waits_left[k] = 0;
-    let mut next = store;
-    next.stage = stages;
-    next.number = numbers;
-    next.snapshot = snapshots;
-    next.request = requests;
-    next.commit = commits;
-    next.requestWaits = request_waits_left;
-    next.commitWaits = commit_waits_left;
-    next
+    stage[k] = 0;
+    number[k] = 0;
+    snapshot[k] = 0;
+    request[k] = 0;
+    commit[k] = 0;
+    *requestWaits = waiting::clear_all(*requestWaits, client);
+    requestWaits[k] = 0;
+    *commitWaits = waiting::clear_all(*commitWaits, client);
+    commitWaits[k] = 0;
 }
 
 // ---- Trim
@@ -130,37 +245,35 @@ fn reader(number: u32, snapshot: u32) -> Number
 }
 
 // The smallest snapshot of open transactions, in every image with these columns.
-fn smallest_open(numbers: &[u32; CLIENTS], snapshots: &[u32; CLIENTS]) -> Number
-    ensures { λ r. ⌜ SmallestOpen (now (numbers .entry)) (now (snapshots .entry)) r ⌝ }
+fn smallest_open(number: &[u32; CLIENTS], snapshot: &[u32; CLIENTS]) -> Number
+    ensures { λ r. ⌜ SmallestOpen (now (number .entry)) (now (snapshot .entry)) r ⌝ }
 {
     let mut best = Number::None;
     for i in 0..CLIENTS {
-        best = numbers::lesser_of(reader(numbers[i], snapshots[i]), best);
+        best = numbers::lesser_of(reader(number[i], snapshot[i]), best);
     }
     best
 }
 
 // The same of a record, or the last commit number if none is open.
-pub fn lowest(store: Store) -> u32
-    ensures { λ r. ⌜ ((d c : List ℕ) → r ≡ low (decode store d c)) ⌝ }
+pub fn lowest(h: Head, number: &[u32; CLIENTS], snapshot: &[u32; CLIENTS]) -> u32
+    ensures { λ r. ⌜ Lowest h (now (number .entry)) (now (snapshot .entry)) r ⌝ }
 {
-    let numbers = store.number;
-    let snapshots = store.snapshot;
-    let best = smallest_open(&numbers, &snapshots);
+    let best = smallest_open(number, snapshot);
     match best {
         Number::Some(n) => n,
-        Number::None => store.last,
+        Number::None => h.last,
     }
 }
 
 // ---- a refusal
 
 // A call that answers a figure, refused.
-pub fn no_figure(store: Store, refusal: Refusal) -> FigureTurn
-    ensures { λ r. ⌜ r ≡ record { store = store; answer = FigureAnswer.Refused refusal } ⌝ }
+pub fn no_figure(h: Head, refusal: Refusal) -> FigureResult
+    ensures { λ r. ⌜ r ≡ record { head = h; answer = FigureAnswer.Refused refusal } ⌝ }
 {
-    FigureTurn {
-        store,
+    FigureResult {
+        head: h,
         answer: FigureAnswer::Refused(refusal),
     }
 }

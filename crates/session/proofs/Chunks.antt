@@ -13,8 +13,9 @@ use lib.ListN.{length, getD, take, drop, length-drop, drop-of-length-le}
 use lib.Seq.{drop-cons, drop-drop}
 use lib.Dec.{eqb}
 use Rattle.spec.specs.Session.{answerTo, answers, memoryAfter}
-use Rattle.spec.specs.Bytes.{Memory}
-use Rattle.session.specs.Inner.{newlineFrom, push, linesOf, unlessLines, restOf}
+use Rattle.spec.specs.declared.Store.{Store}
+use Rattle.spec.specs.Bytes.{Memory, memoryOf}
+use Rattle.session.specs.Inner.{newlineFrom, push, linesOf, unlessLines, restOf, Fed}
 use Rattle.lines.specs.Inner.{Spoken}
 
 -- ---- one turn of the search for a newline
@@ -166,3 +167,9 @@ module _ (s : List ℕ) (from e : ℕ) (h : e ≡ newlineFrom from (drop from s)
 
   pub state-more : (whole : Memory) → memoryAfter w (linesOf (drop from s)) ≡ whole → memoryAfter w′ (linesOf (drop (e + 1) s)) ≡ whole
   state-more whole a = rw (p .memory) (rw (lines-at s from e h m l, after-cons) at a)
+
+-- what a record apart was fed, it was fed by value
+pub fed-by-value : {i d c d′ c′ out out′ : List ℕ} {start at from used : ℕ} {s t s′ t′ : Store} → s ≡ t → s′ ≡ t′
+    → Fed i start (memoryOf s d c) out at from (memoryOf s′ d′ c′) out′ used
+    → Fed i start (memoryOf t d c) out at from (memoryOf t′ d′ c′) out′ used
+fed-by-value e g r = rw (← e, ← g) r

@@ -10,7 +10,12 @@ use mathlib.Core.Logic.{_⊎_}
 use lib.ListN.{length, take, drop}
 use Rattle.spec.specs.Session.{memoryAfter, answers, initial}
 use Rattle.spec.specs.Bytes.{Memory}
+use denote.Triple.Both.{Both}
+use Rattle.spec.specs.Image.{Clients}
 use Rattle.printing.specs.Inner.{answerRoom}
+use Rattle.record.specs.declared.Head.{Head}
+use Rattle.record.specs.Inner.{Lent, memoryFound, memoryLeft}
+use Rattle.session.specs.declared.FeedResult.{FeedResult}
 
 -- ---- The lines of an input that end in a newline, and what stands behind the last of them.
 
@@ -54,6 +59,11 @@ pub record Fed (s : List ℕ) (start : ℕ) (w : Memory) (out : List ℕ) (at : 
   pub room : used ≤ length out′
   pub stopped : (length out′ < used + answerRoom) ⊎ (newlineFrom from (drop from s) ≡ length s)
   pub moved : (start < from) ⊎ ((from ≡ start) × (used ≡ at))
+
+-- the same of numbers, columns, buffers and text
+abbrev pub Feeds : List ℕ → ℕ → Head → Both Clients Clients → Lent → Lent → Lent → ℕ → FeedResult → Type 0
+Feeds s start h k d c out at r =
+    Fed s start (memoryFound h k d c) (out .entry .now) at (r .from) (memoryLeft (r .head) k d c) (out .exit .now) (r .used)
 
 -- w′ is what all whole lines of s leave of w, and from a place on stands what is behind the last newline
 pub record Emptied (s : List ℕ) (w w′ : Memory) (from : ℕ) : Type 0 where

@@ -6,6 +6,7 @@ use mathlib.Core.Bool.{not}
 use mathlib.Core.List.{List, [], _∷_, _++_}
 use borrow.Author.Tests.{le-leb, lt-leb}
 use lib.ListN.{length, getD, length-append}
+use denote.Triple.Both.{Both}
 use Rattle.spec.specs.Rows.{Row, rowsIn, layout, commitRow, filter, hasTag}
 use Rattle.spec.proofs.Rows.{length-rows}
 use Rattle.spec.proofs.Laid.{laid-same}
@@ -14,11 +15,13 @@ use Rattle.spec.specs.Share.{conflict}
 use Rattle.spec.specs.declared.Store.{Store}
 use Rattle.spec.specs.declared.Progress.the-variants.{Stage}
 use Rattle.spec.specs.Answers.{Answer, Answered, unfit}
-use Rattle.spec.specs.Image.{countersOf, setStage, closed}
+use Rattle.spec.specs.Image.{countersOf, Clients, setStage, closed}
 use Rattle.spec.specs.Calls.{refuse, removed}
 use Rattle.spec.specs.Steps.{goOn, addCommit, checked, check}
 use Rattle.spec.specs.Bytes.{countersIn, clientsIn, recordOf, decode, storeOf, afterOf, encode}
 use Rattle.spec.proofs.Ends.{ends}
+use Rattle.record.specs.declared.Head.{Head}
+use Rattle.record.specs.Inner.{whole, Lent}
 use Rattle.steps.specs.Inner.{Removed}
 
 module _ (s : Store) (d c : List ℕ) (k : ℕ) where
@@ -47,14 +50,19 @@ module _ (s : Store) (d c : List ℕ) (k : ℕ) where
   unfolding check decode
   check-found f e = rw e
 
-  -- the record of the image without the client's rows, by how many rows are left
-  pub removed-store : (n : ℕ) → n ≡ length (filter (λ r. not (hasTag (getD (s .number) k 0) r)) (rowsIn 24 (s .used) d))
-      → recordOf (s .rows) (s .limit) (countersIn s) (closed k (clientsIn s)) n (s .entries) ≡ storeOf (removed k (decode s d c))
+  -- the record of the image without the client's rows, by its columns and by how many rows are left
+  pub removed-store : (z : Clients) (n : ℕ) → z ≡ closed k (clientsIn s)
+      → n ≡ length (filter (λ r. not (hasTag (getD (s .number) k 0) r)) (rowsIn 24 (s .used) d))
+      → recordOf (s .rows) (s .limit) (countersIn s) z n (s .entries) ≡ storeOf (removed k (decode s d c))
   unfolding removed decode storeOf
-  removed-store n e = rw (e, length-rows 8 (s .entries) c)
+  removed-store z n f e = rw (f, e, length-rows 8 (s .entries) c)
 
-  -- the client's rows are removed and it is closed, whatever is answered
-  pub removed-ends : {A : Type 0} (a : Answer A) (s′ : Store) (d′ : List ℕ) → Removed k s d s′ d′
-      → afterOf s′ d′ c a ≡ encode s d c (record { image = removed k (decode s d c); answer = a })
-  unfolding removed decode
-  removed-ends a s′ d′ r = ends s d c _ _ _ _ _ (r .store c) (r .bytes c) (sym (laid-same 8 (s .entries) c)) refl
+-- the client's rows are removed and it is closed, whatever is answered
+pub removed-ends : {A : Type 0} (k : ℕ) (h : Head) (cols : Both Clients Clients) (rows : Lent) (c : List ℕ) (a : Answer A) (h′ : Head)
+    → Removed k h cols rows h′
+    → afterOf (whole h′ (cols .exit)) (rows .exit .now) c a
+    ≡ encode (whole h (cols .entry)) (rows .entry .now) c
+    (record { image = removed k (decode (whole h (cols .entry)) (rows .entry .now) c); answer = a })
+unfolding removed decode
+removed-ends k h cols rows c a h′ r =
+    ends (whole h (cols .entry)) (rows .entry .now) c _ _ _ _ _ (r .store c) (r .bytes c) (sym (laid-same 8 (h .entries) c)) refl

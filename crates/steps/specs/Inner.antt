@@ -3,14 +3,17 @@
 use Prim.Native.Nat.{ℕ}
 use mathlib.Core.Path.{_≡_}
 use mathlib.Core.List.{List}
+use denote.Triple.Both.{Both}
 use Rattle.spec.specs.Rows.{dataWidth, layout}
-use Rattle.spec.specs.declared.Store.{Store}
+use Rattle.spec.specs.Image.{Clients}
 use Rattle.spec.specs.Calls.{removed}
 use Rattle.spec.specs.Bytes.{decode, storeOf}
+use Rattle.record.specs.declared.Head.{Head}
+use Rattle.record.specs.Inner.{whole, Lent}
 
--- ---- What removing a client's data rows and closing it leaves, for the promise of `remove`, which Abandon and the check share.
-
--- a record s with data buffer d has become s′ with d′, whatever the committed buffer c is
-pub record Removed (k : ℕ) (s : Store) (d : List ℕ) (s′ : Store) (d′ : List ℕ) : Type 0 where
-  pub store : (c : List ℕ) → s′ ≡ storeOf (removed k (decode s d c))
-  pub bytes : (c : List ℕ) → d′ ≡ layout dataWidth (s .used) (removed k (decode s d c) .dataRows) d
+-- What removing a client's data rows and closing it leaves of numbers h, columns and the data buffer, for the promise of `remove`, which Abandon
+-- and the check share; whatever the committed buffer c is.
+pub record Removed (k : ℕ) (h : Head) (cols : Both Clients Clients) (rows : Lent) (h′ : Head) : Type 0 where
+  pub store : (c : List ℕ) → whole h′ (cols .exit) ≡ storeOf (removed k (decode (whole h (cols .entry)) (rows .entry .now) c))
+  pub bytes : (c : List ℕ)
+      → rows .exit .now ≡ layout dataWidth (h .used) (removed k (decode (whole h (cols .entry)) (rows .entry .now) c) .dataRows) (rows .entry .now)

@@ -1,32 +1,42 @@
 // Trim: rows that a later commit has replaced for every reader go.
+ghost use mathlib.Core.List.{List};
+ghost use Prim.Native.Nat.{ℕ};
 ghost use Rattle.spec.specs.Answers.{figureOf};
 ghost use Rattle.spec.specs.Calls.{trim};
-ghost use Rattle.spec.specs.Bytes.{memoryOf, Performs};
+ghost use Rattle.record.specs.Inner.{columns, unseen, PerformsOn};
+use record::FigureResult;
+use record::Head;
+use spec::CLIENTS;
 use spec::FigureAnswer;
-use spec::FigureTurn;
 use spec::Refusal;
-use spec::Store;
 
 // Trim answers how many data rows went.
-pub fn trim(store: Store, rows: &mut [u8], commits: &mut [u8]) -> FigureTurn
-    ensures { λ r. ⌜ Performs trim
-        (memoryOf store (now (rows .entry)) (now (commits .entry)))
-        (memoryOf (r .store) (now (rows .exit)) (now (commits .exit))) (figureOf (r .answer)) ⌝ }
+pub fn trim(
+    h: Head,
+    stage: &[u32; CLIENTS],
+    number: &[u32; CLIENTS],
+    snapshot: &[u32; CLIENTS],
+    rows: &mut [u8],
+    commits: &mut [u8],
+) -> FigureResult
+    ensures { λ r. ⌜ ((q m b w : List ℕ) → PerformsOn trim h
+        (columns stage number snapshot (unseen q) (unseen m) (unseen b) (unseen w)) rows commits
+        (r .head) (figureOf (r .answer))) ⌝ }
 {
-    if !record::fit(store, rows.len(), commits.len()) {
-        return record::no_figure(store, Refusal::Unfit);
+    if !record::fit(h, stage, rows.len(), commits.len()) {
+        return record::no_figure(h, Refusal::Unfit);
     }
-    let low = record::lowest(store);
-    let used = store.used as usize;
-    let entries = store.entries as usize;
+    let low = record::lowest(h, number, snapshot);
+    let used = h.used as usize;
+    let entries = h.entries as usize;
     let left = marking::trim(rows, used, commits, entries, low);
     let kept = left.rows as u32;
     let rest = left.commits as u32;
-    let mut next = store;
+    let mut next = h;
     next.used = kept;
     next.entries = rest;
-    FigureTurn {
-        store: next,
-        answer: FigureAnswer::Answered(store.used - kept),
+    FigureResult {
+        head: next,
+        answer: FigureAnswer::Answered(h.used - kept),
     }
 }

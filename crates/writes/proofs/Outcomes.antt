@@ -2,6 +2,7 @@
 -- Assumes nothing.
 use Prim.Native.Nat.{ℕ, _<_}
 use mathlib.Core.Path.{_≡_, refl, ap}
+use mathlib.Core.Bool.{true}
 use mathlib.Core.List.{List}
 use native.Mathlib.Omega.{arith}
 use borrow.Author.Tests.{lt-leb, eq-eqb, ne-eqb}
@@ -18,7 +19,8 @@ use Rattle.search.specs.Inner.{rowOrCount}
 use Rattle.search.proofs.Below.{find-below}
 use Rattle.spec.specs.declared.Store.{Store}
 use Rattle.spec.specs.Calls.{stored, write}
-use Rattle.spec.specs.Bytes.{decode}
+use Rattle.spec.specs.Bytes.{decode, After, encode, fits, onBytes}
+use Rattle.spec.proofs.Ends.{goes}
 
 nothing : _≡_ {A = ℕ} 0 1 → ⊥
 nothing z = omega arith
@@ -37,8 +39,11 @@ pub found-below : (t x n : ℕ) (d : List ℕ) (j : ℕ) → find (isOwn t x) 0 
 found-below t x n d j e = omega (arith, find-below (isOwn t x) 0 j (rowsIn 24 n d) e, length-rows 24 n d)
 
 module _ (s : Store) (d c : List ℕ) (k x : ℕ) (h : k < clients) (g : x < 1024) (n : getD (s .number) k 0 ≡ 0 → ⊥) (t : getD (s .stage) k 0 ≡ 0) where
-  pub write-stored : (v : List ℕ) (f : Found) → length v ≡ 16 → f ≡ find (isOwn (getD (s .number) k 0) x) 0 (rowsIn 24 (s .used) d)
-      → stored f k x v (decode s d c) ≡ write k x v (decode s d c)
+  -- where every test is passed, what is stored, by the row that was looked for
+  pub write-stores : (v : List ℕ) (f : Found) (o : After ℕ) → fits s (length d) (length c) ≡ true → length v ≡ 16
+      → f ≡ find (isOwn (getD (s .number) k 0) x) 0 (rowsIn 24 (s .used) d)
+      → o ≡ encode s d c (stored f k x v (decode s d c)) → o ≡ onBytes (write k x v) s d c
   unfolding write decode
-  write-stored v f l e =
-      rw (lt-leb clients k h, lt-leb 1024 x g, eq-eqb (length v) 16 l, ne-eqb (getD (s .number) k 0) 0 n, eq-eqb (getD (s .stage) k 0) 0 t, e)
+  write-stores v f o p l e q =
+      goes s d c (write k x v) {o = o} p
+      (rw (lt-leb clients k h, lt-leb 1024 x g, eq-eqb (length v) 16 l, ne-eqb (getD (s .number) k 0) 0 n, eq-eqb (getD (s .stage) k 0) 0 t, ← e) q)

@@ -1,53 +1,56 @@
 // Write: a row added, or a value replaced where the transaction has a row for the cell.
+ghost use mathlib.Core.List.{List};
+ghost use Prim.Native.Nat.{ℕ};
 ghost use Rattle.spec.specs.Answers.{figureOf};
 ghost use Rattle.spec.specs.Calls.{write};
-ghost use Rattle.spec.specs.Bytes.{memoryOf, Performs};
+ghost use Rattle.record.specs.Inner.{columns, unseen, PerformsOn};
+use record::FigureResult;
+use record::Head;
 use search::Own;
 use spec::CELLS;
-use spec::FigureTurn;
+use spec::CLIENTS;
 use spec::LIMIT;
 use spec::Refusal;
-use spec::Store;
 
 // Write answers the free figure.
 pub fn write(
-    store: Store,
+    h: Head,
+    stage: &[u32; CLIENTS],
+    number: &[u32; CLIENTS],
     rows: &mut [u8],
     commits: &[u8],
     client: u32,
     cell: u32,
     value: &[u8],
-) -> FigureTurn
-    ensures { λ r. ⌜ Performs (write client cell (now (value .entry)))
-        (memoryOf store (now (rows .entry)) (now (commits .entry)))
-        (memoryOf (r .store) (now (rows .exit)) (now (commits .entry))) (figureOf (r .answer)) ⌝ }
+) -> FigureResult
+    ensures { λ r. ⌜ ((s q m b w : List ℕ) → PerformsOn (write client cell (now (value .entry))) h
+        (columns stage number (unseen s) (unseen q) (unseen m) (unseen b) (unseen w)) rows commits
+        (r .head) (figureOf (r .answer))) ⌝ }
 {
-    if !record::fit(store, rows.len(), commits.len()) {
-        return record::no_figure(store, Refusal::Unfit);
+    if !record::fit(h, stage, rows.len(), commits.len()) {
+        return record::no_figure(h, Refusal::Unfit);
     }
     if LIMIT <= client {
-        return record::no_figure(store, Refusal::NoClient);
+        return record::no_figure(h, Refusal::NoClient);
     }
     if CELLS <= cell {
-        return record::no_figure(store, Refusal::NoCell);
+        return record::no_figure(h, Refusal::NoCell);
     }
     if value.len() != 16 {
-        return record::no_figure(store, Refusal::WrongLength);
+        return record::no_figure(h, Refusal::WrongLength);
     }
     let k = client as usize;
-    let numbers = store.number;
-    let number = numbers[k];
-    if number == 0 {
-        return record::no_figure(store, Refusal::NotOpen);
+    let tag = number[k];
+    if tag == 0 {
+        return record::no_figure(h, Refusal::NotOpen);
     }
-    let stages = store.stage;
-    if stages[k] != 0 {
-        return record::no_figure(store, Refusal::WrongStage);
+    if stage[k] != 0 {
+        return record::no_figure(h, Refusal::WrongStage);
     }
-    let used = store.used as usize;
-    let own = search::own_row(rows, used, number, cell);
+    let used = h.used as usize;
+    let own = search::own_row(rows, used, tag, cell);
     match own {
-        Own::Row(at) => placing::replace_row(store, rows, commits, at, value),
-        Own::Rows(n) => placing::add_row(store, rows, commits, client, cell, value, n),
+        Own::Row(at) => placing::replace_row(h, rows, at, value),
+        Own::Rows(n) => placing::add_row(h, number, rows, client, cell, value, n),
     }
 }

@@ -1,44 +1,23 @@
 -- `queues::take_commit`: refused at the largest number, else the next one and the next stage.
 -- Assumes nothing.
-use borrow.Author.Needs.{needs}
 use borrow.Author.Tests.{eq-eqb, ne-eqb}
 use Rattle.spec.specs.Bytes.{decode, encode}
 use Rattle.spec.specs.Steps.{takeCommit}
 use Rattle.spec.proofs.Ends.{image-stays}
+use borrow.Author.Needs.{needs}
 use Rattle.queues.proofs.take_commit.Statement.{statement}
 use Rattle.queues.proofs.take_commit.Tie as tie
 
-refuse-requires : tie.Need-refuse-requires
-refuse-requires c κs = search needs
-
 returns : tie.Need-returns
 unfolding takeCommit decode
-returns c = λ d e. rw (c .refuse .ensures) (image-stays _ d e _ _ (rw (eq-eqb _ 4294967295 (c .before .if1 .taken))))
-
-add-n : tie.Need-add-n
-add-n c = search needs
-
-mul-commits : tie.Need-mul-commits
-mul-commits c = search needs
-
-array-write-commits : tie.Need-array-write-commits
-array-write-commits c = search needs
-
-go-on-requires : tie.Need-go-on-requires
-go-on-requires c κs = search needs
+returns c = λ n s q b w d e. rw (c .refuse .ensures) (image-stays _ d e _ _ (rw (eq-eqb _ 4294967295 (c .before .if1 .taken))))
 
 returns-2 : tie.Need-returns-2
 unfolding takeCommit decode encode
-returns-2 c = λ d e. rw (ne-eqb _ 4294967295 (c .before .before .before .if1 .left)) (c .go-on .ensures d e)
+returns-2 c = λ n s q b w d e. rw (ne-eqb _ 4294967295 (c .before .before .before .if1 .left)) (c .go-on .ensures _ _ _ _ _ _ d e)
 
 pub take-commit-spec : {M : Type 1} → statement M
 take-commit-spec =
     tie.close
     (tie.spec
-    refuse-requires
-    returns
-    add-n
-    mul-commits
-    array-write-commits
-    go-on-requires
-    returns-2)
+    (λ c κs. search needs) returns (λ c. search needs) (λ c. search needs) (λ c. search needs) (λ c κs. search needs) returns-2)

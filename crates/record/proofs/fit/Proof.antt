@@ -12,15 +12,15 @@ returns : tie.Need-returns
 unfolding fits
 returns c =
     let a = c .before .args in
-    let s = a .store in
-    rw (lt-ltb (s .rows) 1 (omega arith))
+    let s = a .h in
+    λ n p q m b w. rw (lt-ltb (s .rows) 1 (omega arith))
 
 returns-2 : tie.Need-returns-2
 unfolding fits
 returns-2 c =
     let a = c .before .before .args in
-    let s = a .store in
-    rw (le-ltb (s .rows) 1 (omega arith), lt-ltb 1024 (s .rows) (omega arith))
+    let s = a .h in
+    λ n p q m b w. rw (le-ltb (s .rows) 1 (omega arith), lt-ltb 1024 (s .rows) (omega arith))
 
 cast-wide : tie.Need-cast-wide
 cast-wide c = search needs
@@ -32,8 +32,8 @@ returns-3 : tie.Need-returns-3
 unfolding fits
 returns-3 c =
     let a = c .before .before .before .args in
-    let s = a .store in
-    rw (le-ltb (s .rows) 1 (omega arith), le-ltb 1024 (s .rows) (omega arith), ne-eqb (a .d) (24 * s .rows) (c .if3 .taken))
+    let s = a .h in
+    λ n p q m b w. rw (le-ltb (s .rows) 1 (omega arith), le-ltb 1024 (s .rows) (omega arith), ne-eqb (a .d) (24 * s .rows) (c .if3 .taken))
 
 mul-if4 : tie.Need-mul-if4
 mul-if4 c = search needs
@@ -42,8 +42,8 @@ returns-4 : tie.Need-returns-4
 unfolding fits
 returns-4 c =
     let a = c .before .before .before .before .args in
-    let s = a .store in
-    rw (
+    let s = a .h in
+    λ n p q m b w. rw (
       le-ltb (s .rows) 1 (omega arith),
       le-ltb 1024 (s .rows) (omega arith),
       eq-eqb (a .d) (24 * s .rows) (omega arith),
@@ -55,8 +55,8 @@ returns-5 : tie.Need-returns-5
 unfolding fits
 returns-5 c =
     let a = c .before .before .before .before .before .before .args in
-    let s = a .store in
-    rw (
+    let s = a .h in
+    λ n p q m b w. rw (
       le-ltb (s .rows) 1 (omega arith),
       le-ltb 1024 (s .rows) (omega arith),
       eq-eqb (a .d) (24 * s .rows) (omega arith),
@@ -69,8 +69,8 @@ returns-6 : tie.Need-returns-6
 unfolding fits
 returns-6 c =
     let a = c .before .before .before .before .before .before .before .before .args in
-    let s = a .store in
-    rw (
+    let s = a .h in
+    λ n p q m b w. rw (
       le-ltb (s .rows) 1 (omega arith),
       le-ltb 1024 (s .rows) (omega arith),
       eq-eqb (a .d) (24 * s .rows) (omega arith),
@@ -86,9 +86,9 @@ stages-known-requires c κs = search needs
 returns-7 : tie.Need-returns-7
 unfolding fits
 returns-7 c =
-    let a = c .before .before .before .before .before .before .before .before .before .before .before .args in
-    let s = a .store in
-    rw (
+    let a = c .before .before .before .before .before .before .before .before .before .args in
+    let s = a .h in
+    λ n p q m b w. rw (
       le-ltb (s .rows) 1 (omega arith),
       le-ltb 1024 (s .rows) (omega arith),
       eq-eqb (a .d) (24 * s .rows) (omega arith),

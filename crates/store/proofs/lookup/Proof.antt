@@ -1,10 +1,10 @@
--- `reads::lookup`: the value that the answer names.
+-- `store::lookup`: the value that the answer names.
 -- Assumes nothing.
 use mathlib.Core.Path.{ap}
 use borrow.Author.Needs.{needs}
 use Rattle.spec.specs.Values.{valueFrom}
-use Rattle.reads.proofs.lookup.Statement.{statement}
-use Rattle.reads.proofs.lookup.Tie as tie
+use Rattle.store.proofs.lookup.Statement.{statement}
+use Rattle.store.proofs.lookup.Tie as tie
 
 read-requires : tie.Need-read-requires
 read-requires c κs = search needs
