@@ -16,7 +16,8 @@ use Rattle.spec.specs.Bytes.{decode, storeOf}
 
 module _ (s : Store) (d c : List ℕ) where
   pub abandon-removed : (k n : ℕ) → n ≡ removed k (decode s d c) .rows - length (removed k (decode s d c) .dataRows)
-      → k < clients → (getD (s .number) k 0 ≡ 0 → ⊥) → getD (s .stage) k 0 < 12 → replies (removed k (decode s d c)) n ≡ abandon k (decode s d c)
+      → k < clients → (getD (s .number) k 0 ≡ 0 → ⊥) → getD (s .stage) k 0 < 12 → replies (removed k (decode s d c)) n ≡ abandon k
+      (decode s d c)
   unfolding abandon decode
   abandon-removed k n e h m t = rw (lt-leb clients k h, ne-eqb (getD (s .number) k 0) 0 m, lt-leb 12 (getD (s .stage) k 0) t, e)
 

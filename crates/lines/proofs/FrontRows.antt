@@ -93,7 +93,8 @@ module _ (store : Store) (b b₂ : List ℕ) (out out′ : List ℕ) (at used : 
       (record { memory = rw (p, q, k .0, k .1, take-append-drop d b, take-append-drop c b₂); text = u; room = l })
 
   -- s′ is the record that is kept
-  pub set-up-spoken : (form : Form) (r first limit d c : ℕ) (s s′ : Store) (x y d′ c′ : List ℕ) (a : FigureAnswer) → r ≤ 1024 → s′ ≡ keptOf s a
+  pub set-up-spoken : (form : Form) (r first limit d c : ℕ) (s s′ : Store) (x y d′ c′ : List ℕ) (a : FigureAnswer) → r ≤ 1024 → s′ ≡
+      keptOf s a
       → Front (24 * r) (length b) d → Front (8 * r) (length b₂) c
       → afterOf s x y (figureOf a) ≡ setUp (take d b) (take c b₂) first limit → d′ ≡ x ++ drop d b → c′ ≡ y ++ drop c b₂
       → Put out at (lineText form (answerText freeText (figureOf a))) out′ used → used ≤ at + 90

@@ -191,7 +191,8 @@ fn write_said(
     at: usize,
 ) -> Answered
     requires { ⌜ at + answerRoom ≤ length (now out) ⌝ }
-    ensures { λ r. ⌜ ((s q m b w : List ℕ) → Says (said (Form.Write client cell place) (Write client cell (valueIn (now (line .entry)) place))) h
+    ensures { λ r. ⌜ ((s q m b w : List ℕ) → Says
+        (said (Form.Write client cell place) (Write client cell (valueIn (now (line .entry)) place))) h
         (columns stage number (unseen s) (unseen q) (unseen m) (unseen b) (unseen w)) rows commits out at r) ⌝ }
 {
     let d = front(DATA_ROW * h.rows as usize, rows.len());

@@ -2,9 +2,8 @@
 // closing a client, Trim's low; and how a record by value comes apart and together.
 ghost use mathlib.Core.Path.{_≡_};
 ghost use mathlib.Core.Bool.{not};
-ghost use mathlib.Core.List.{List};
 ghost use lib.Dec.{eqb};
-ghost use Prim.Native.Nat.{ℕ, _<_};
+ghost use Prim.Native.Nat.{_<_};
 ghost use Rattle.spec.specs.Set.{clients};
 ghost use Rattle.spec.specs.Choice.{if_then_else_};
 ghost use Rattle.spec.specs.Image.{closed, clientsOf, empty};

@@ -147,7 +147,8 @@ no-line-left s from m h =
 
 -- ---- one turn of a loop over lines
 
-pub answers-cons : (w : Memory) (l : List ℕ) (ls : List (List ℕ)) → answers w (l ∷ ls) ≡ answerTo l w .text ++ answers (answerTo l w .memory) ls
+pub answers-cons : (w : Memory) (l : List ℕ) (ls : List (List ℕ)) → answers w (l ∷ ls) ≡ answerTo l w .text ++ answers (answerTo l w
+    .memory) ls
 unfolding answers
 answers-cons w l ls = refl
 

@@ -51,14 +51,15 @@ restOf (b ∷ s) = if eqb b 10 then restOf s else unlessLines (linesOf s) b (res
 
 -- the text in out has grown by the answers to the lines of s between two places, and the state has gone along; what is begun at the end of s
 -- is still to come; what is left has no whole line, or out has no room for an answer; where no line was answered, nothing was said
-pub record Fed (s : List ℕ) (start : ℕ) (w : Memory) (out : List ℕ) (at : ℕ) (from : ℕ) (w′ : Memory) (out′ : List ℕ) (used : ℕ) : Type 0 where
-  pub text : take used out′ ++ answers w′ (linesOf (drop from s)) ≡ take at out ++ answers w (linesOf (drop start s))
-  pub state : memoryAfter w′ (linesOf (drop from s)) ≡ memoryAfter w (linesOf (drop start s))
-  pub rest : restOf (drop from s) ≡ restOf (drop start s)
-  pub within : from ≤ length s
-  pub room : used ≤ length out′
-  pub stopped : (length out′ < used + answerRoom) ⊎ (newlineFrom from (drop from s) ≡ length s)
-  pub moved : (start < from) ⊎ ((from ≡ start) × (used ≡ at))
+pub record Fed (s : List ℕ) (start : ℕ) (w : Memory) (out : List ℕ) (at : ℕ) (from : ℕ) (w′ : Memory) (out′ : List ℕ) (used : ℕ) : Type 0
+  where
+    pub text : take used out′ ++ answers w′ (linesOf (drop from s)) ≡ take at out ++ answers w (linesOf (drop start s))
+    pub state : memoryAfter w′ (linesOf (drop from s)) ≡ memoryAfter w (linesOf (drop start s))
+    pub rest : restOf (drop from s) ≡ restOf (drop start s)
+    pub within : from ≤ length s
+    pub room : used ≤ length out′
+    pub stopped : (length out′ < used + answerRoom) ⊎ (newlineFrom from (drop from s) ≡ length s)
+    pub moved : (start < from) ⊎ ((from ≡ start) × (used ≡ at))
 
 -- the same of numbers, columns, buffers and text
 abbrev pub Feeds : List ℕ → ℕ → Head → Both Clients Clients → Lent → Lent → Lent → ℕ → FeedResult → Type 0

@@ -45,7 +45,8 @@ module _ (s : Store) (d c : List ℕ) (k : ℕ) where
       (ends s d c _ _ _ _ _ (rw (n, length-rows 24 (s .used) d)) (sym (laid-same 24 (s .used) d)) e refl)
 
   -- the check, by the number that was found
-  pub check-found : (f : Number) → f ≡ conflict (getD (s .number) k 0) (getD (s .snapshot) k 0) (rowsIn 24 (s .used) d) (rowsIn 8 (s .entries) c)
+  pub check-found : (f : Number) → f ≡ conflict (getD (s .number) k 0) (getD (s .snapshot) k 0) (rowsIn 24 (s .used) d) (rowsIn 8 (s
+      .entries) c)
       → checked f k (decode s d c) ≡ check k (decode s d c)
   unfolding check decode
   check-found f e = rw e

@@ -16,4 +16,5 @@ use Rattle.record.specs.Inner.{whole, Lent}
 pub record Removed (k : ℕ) (h : Head) (cols : Both Clients Clients) (rows : Lent) (h′ : Head) : Type 0 where
   pub store : (c : List ℕ) → whole h′ (cols .exit) ≡ storeOf (removed k (decode (whole h (cols .entry)) (rows .entry .now) c))
   pub bytes : (c : List ℕ)
-      → rows .exit .now ≡ layout dataWidth (h .used) (removed k (decode (whole h (cols .entry)) (rows .entry .now) c) .dataRows) (rows .entry .now)
+      → rows .exit .now ≡ layout dataWidth (h .used) (removed k (decode (whole h (cols .entry)) (rows .entry .now) c) .dataRows) (rows
+      .entry .now)

@@ -16,27 +16,31 @@ use Rattle.abandons.proofs.abandon.Statement.{statement}
 use Rattle.abandons.proofs.abandon.Tie as tie
 
 returns : tie.Need-returns
-returns c = rw (c .no-figure .ensures) (ends-unfit _ _ _ _ (sym (c .before .before .fit .ensures _ _ _ _ _ _) ∙ not-true _ (c .before .if1 .taken)))
+returns c = rw (c .no-figure .ensures) (ends-unfit _ _ _ _ (sym (c .before .before .fit .ensures _ _ _ _ _ _) ∙ not-true _ (c .before
+    .if1 .taken)))
 
 returns-2 : tie.Need-returns-2
 unfolding abandon
 returns-2 c =
     let a = c .before .before .before .before .before .before .before .args in
-    rw (c .no-figure2 .ensures) (refuses _ _ _ _ _ (sym (c .before .before .before .fit .ensures _ _ _ _ _ _) ∙ not-false _ (c .before .before .if1 .left))
+    rw (c .no-figure2 .ensures) (refuses _ _ _ _ _ (sym (c .before .before .before .fit .ensures _ _ _ _ _ _) ∙ not-false _ (c .before
+    .before .if1 .left))
     (rw (le-leb clients (a .client) (omega arith))))
 
 returns-3 : tie.Need-returns-3
 unfolding abandon decode
 returns-3 c =
     let a = c .before .before .before .before .before .before .before .before .before .args in
-    rw (c .no-figure3 .ensures) (refuses _ _ _ _ _ (sym (c .before .before .before .before .before .fit .ensures _ _ _ _ _ _) ∙ not-false _ (c .before .before .before .before .if1 .left))
+    rw (c .no-figure3 .ensures) (refuses _ _ _ _ _ (sym (c .before .before .before .before .before .fit .ensures _ _ _ _ _ _) ∙ not-false
+    _ (c .before .before .before .before .if1 .left))
     (rw (lt-leb clients (a .client) (omega arith), eq-eqb (getD (a .number .now) (a .client) 0) 0 (omega arith))))
 
 returns-4 : tie.Need-returns-4
 unfolding abandon decode
 returns-4 c =
     let a = c .before .before .before .before .before .before .before .before .before .before .before .args in
-    rw (c .no-figure4 .ensures) (refuses _ _ _ _ _ (sym (c .before .before .before .before .before .before .before .fit .ensures _ _ _ _ _ _) ∙ not-false _ (c .before .before .before .before .before .before .if1 .left))
+    rw (c .no-figure4 .ensures) (refuses _ _ _ _ _ (sym (c .before .before .before .before .before .before .before .fit .ensures _ _ _ _
+    _ _) ∙ not-false _ (c .before .before .before .before .before .before .if1 .left))
     (rw (
       lt-leb clients (a .client) (omega arith),
       ne-eqb (getD (a .number .now) (a .client) 0) 0 (c .before .before .before .if3 .left),
@@ -44,19 +48,32 @@ returns-4 c =
     )))
 
 remove-requires : tie.Need-remove-requires
-remove-requires c κs = let f = fit-of _ _ _ (sym (c .before .before .before .before .before .before .before .before .before .before .before .before .before .before .fit .ensures [] [] [] [] [] []) ∙ not-false _ (c .before .before .before .before .before .before .before .before .before .before .before .before .before .if1 .left)) in (omega arith, (omega arith, omega arith))
+remove-requires c κs = let f = fit-of _ _ _ (sym (c .before .before .before .before .before .before .before .before .before .before
+    .before .before .before .before .fit .ensures [] [] [] [] [] []) ∙ not-false _ (c .before .before .before .before .before .before
+    .before .before .before .before .before .before .before .if1 .left)) in (omega arith, (omega arith, omega arith))
 
 sub-t23 : tie.Need-sub-t23
 sub-t23 c =
-    let f = fit-of _ _ _ (sym (c .before .before .before .before .before .before .before .before .before .before .before .before .before .before .before .before .before .before .fit .ensures [] [] [] [] [] []) ∙ not-false _ (c .before .before .before .before .before .before .before .before .before .before .before .before .before .before .before .before .before .if1 .left)) in
-    omega (arith, f .dataRows, removed-within _ _ _ _ _ (c .before .before .before .remove .ensures .store (c .before .before .before .before .before .before .before .before .before .before .before .before .before .before .before .before .before .before .before .before .before .before .args .commits .now)) (f .dataRows))
+    let f = fit-of _ _ _ (sym (c .before .before .before .before .before .before .before .before .before .before .before .before .before
+    .before .before .before .before .before .fit .ensures [] [] [] [] [] []) ∙ not-false _ (c .before .before .before .before .before
+    .before .before .before .before .before .before .before .before .before .before .before .before .if1 .left)) in
+    omega (
+      arith,
+      f .dataRows,
+      removed-within _ _ _ _ _ (c .before .before .before .remove .ensures .store (c .before .before .before
+          .before .before .before .before .before .before .before .before .before .before .before .before .before .before .before .before
+          .before .before .before .args .commits .now)) (f .dataRows),
+    )
 
 returns-5 : tie.Need-returns-5
 returns-5 c =
     let gone = c .before .before .before .remove .ensures in
-    goes _ _ _ _ (sym (c .before .before .before .before .before .before .before .before .before .before .before .before .before .before .before .before .before .before .fit .ensures _ _ _ _ _ _) ∙ not-false _ (c .before .before .before .before .before .before .before .before .before .before .before .before .before .before .before .before .before .if1 .left))
+    goes _ _ _ _ (sym (c .before .before .before .before .before .before .before .before .before .before .before .before .before .before
+    .before .before .before .before .fit .ensures _ _ _ _ _ _) ∙ not-false _ (c .before .before .before .before .before .before
+    .before .before .before .before .before .before .before .before .before .before .before .if1 .left))
     (removed-ends _ _ _ _ _ _ _ gone
-    ∙ ap (encode _ _ _) (abandon-removed _ _ _ _ _ (removed-figure _ _ _ _ _ (gone .store _)) (omega arith) (c .before .before .before .before .before .before .before .before .before .before .before .before .before .before .if3 .left) (omega arith)))
+    ∙ ap (encode _ _ _) (abandon-removed _ _ _ _ _ (removed-figure _ _ _ _ _ (gone .store _)) (omega arith) (c .before .before .before
+    .before .before .before .before .before .before .before .before .before .before .before .if3 .left) (omega arith)))
 
 pub abandon-spec : {M : Type 1} → statement M
 abandon-spec =

@@ -13,31 +13,47 @@ use Rattle.advances.proofs.advance.Statement.{statement}
 use Rattle.advances.proofs.advance.Tie as tie
 
 returns : tie.Need-returns
-returns c = rw (c .refuse .ensures) (ends-unfit _ _ _ _ (sym (c .before .before .fit .ensures _ _ _ _ _ _) ∙ not-true _ (c .before .if1 .taken)))
+returns c = rw (c .refuse .ensures) (ends-unfit _ _ _ _ (sym (c .before .before .fit .ensures _ _ _ _ _ _) ∙ not-true _ (c .before .if1
+    .taken)))
 
 returns-2 : tie.Need-returns-2
 unfolding advance
 returns-2 c =
     let a = c .before .before .before .before .before .before .before .args in
-    rw (c .refuse2 .ensures) (refuses _ _ _ _ _ (sym (c .before .before .before .fit .ensures _ _ _ _ _ _) ∙ not-false _ (c .before .before .if1 .left))
+    rw (c .refuse2 .ensures) (refuses _ _ _ _ _ (sym (c .before .before .before .fit .ensures _ _ _ _ _ _) ∙ not-false _ (c .before
+    .before .if1 .left))
     (rw (le-leb clients (a .client) (omega arith))))
 
 returns-3 : tie.Need-returns-3
 unfolding advance decode
 returns-3 c =
     let a = c .before .before .before .before .before .before .before .before .before .args in
-    rw (c .refuse3 .ensures) (refuses _ _ _ _ _ (sym (c .before .before .before .before .before .fit .ensures _ _ _ _ _ _) ∙ not-false _ (c .before .before .before .before .if1 .left))
+    rw (c .refuse3 .ensures) (refuses _ _ _ _ _ (sym (c .before .before .before .before .before .fit .ensures _ _ _ _ _ _) ∙ not-false _
+    (c .before .before .before .before .if1 .left))
     (rw (lt-leb clients (a .client) (omega arith), eq-eqb (getD (a .number .now) (a .client) 0) 0 (omega arith))))
 
 step-requires : tie.Need-step-requires
-step-requires c κs = (omega arith, (sym (c .before .before .before .before .before .before .before .before .before .before .before .before .before .fit .ensures _ _ _ _ _ _) ∙ not-false _ (c .before .before .before .before .before .before .before .before .before .before .before .before .if1 .left)))
+step-requires c κs = (
+  omega arith,
+  (sym (c .before .before .before .before .before .before .before .before .before .before .before
+      .before .before .fit .ensures _ _ _ _ _ _) ∙ not-false _ (c .before .before .before .before .before .before .before .before .before
+      .before .before .before .if1 .left)),
+)
 
 returns-4 : tie.Need-returns-4
 unfolding advance decode
 returns-4 c =
-    let a = c .before .before .before .before .before .before .before .before .before .before .before .before .before .before .before .before .before .before .before .before .before .before .args in
-    goes _ _ _ _ (sym (c .before .before .before .before .before .before .before .before .before .before .before .before .before .before .before .before .before .before .fit .ensures _ _ _ _ _ _) ∙ not-false _ (c .before .before .before .before .before .before .before .before .before .before .before .before .before .before .before .before .before .if1 .left))
-    (rw (lt-leb clients (a .client) (omega arith), ne-eqb (getD (a .number .now) (a .client) 0) 0 (c .before .before .before .before .before .before .before .before .before .before .before .before .before .before .if3 .left)) (c .before .before .before .before .step .ensures))
+    let a = c .before .before .before .before .before .before .before .before .before .before .before .before .before .before .before
+    .before .before .before .before .before .before .before .args in
+    goes _ _ _ _ (sym (c .before .before .before .before .before .before .before .before .before .before .before .before .before .before
+    .before .before .before .before .fit .ensures _ _ _ _ _ _) ∙ not-false _ (c .before .before .before .before .before .before
+    .before .before .before .before .before .before .before .before .before .before .before .if1 .left))
+    (rw (
+      lt-leb clients (a .client) (omega arith),
+      ne-eqb (getD (a .number .now) (a .client) 0) 0 (c .before .before .before .before
+          .before .before .before .before .before .before .before .before .before .before .if3 .left),
+    ) (c .before .before .before .before
+    .step .ensures))
 
 pub advance-spec : {M : Type 1} → statement M
 advance-spec =

@@ -16,16 +16,26 @@ above : {n g : ℕ} → n ≤ g → (g ≡ n → ⊥) → suc n ≤ g
 above h e = lt-of-le-ne h (λ q. e (sym q))
 
 enter-requires : tie.Need-enter-requires
-enter-requires c κs = let f = fit-of _ _ _ (c .before .before .before .before .before .before .before .before .before .before .before .before .pre .1) in (omega arith, omega arith)
+enter-requires c κs = let f = fit-of _ _ _ (c .before .before .before .before .before .before .before .before .before .before .before
+    .before .pre .1) in (omega arith, omega arith)
 
 list-requests-requires : tie.Need-list-requests-requires
-list-requests-requires c κs = let f = fit-of _ _ _ (c .before .before .before .before .before .before .before .before .pre .1) in (omega arith, omega arith)
+list-requests-requires c κs = let f = fit-of _ _ _ (c .before .before .before .before .before .before .before .before .pre .1) in (
+  omega
+      arith,
+  omega arith,
+)
 
 check-requires : tie.Need-check-requires
-check-requires c κs = let f = fit-of _ _ _ (c .before .before .before .before .before .before .before .before .before .before .before .before .before .pre .1) in (omega arith, (omega arith, (omega arith, omega arith)))
+check-requires c κs = let f = fit-of _ _ _ (c .before .before .before .before .before .before .before .before .before .before .before
+    .before .before .pre .1) in (omega arith, (omega arith, (omega arith, omega arith)))
 
 add-commit-requires : tie.Need-add-commit-requires
-add-commit-requires c κs = let f = fit-of _ _ _ (c .before .before .before .before .before .before .before .before .pre .1) in (omega arith, (omega arith, omega arith))
+add-commit-requires c κs = let f = fit-of _ _ _ (c .before .before .before .before .before .before .before .before .pre .1) in (
+  omega
+      arith,
+  (omega arith, omega arith),
+)
 
 returns : tie.Need-returns
 returns c = rw (c .before .before .before .before .before .before .before .before .before .match .keys1) (c .enter .ensures _)
@@ -43,7 +53,8 @@ returns-5 : tie.Need-returns-5
 returns-5 c = rw (c .before .before .before .before .match .keys5) (c .look-requests .ensures _ _ _ _ _ _)
 
 returns-6 : tie.Need-returns-6
-returns-6 c = rw (c .before .before .before .before .before .before .before .before .before .before .before .before .match .keys6) (c .before .before .check .ensures)
+returns-6 c = rw (c .before .before .before .before .before .before .before .before .before .before .before .before .match .keys6) (c
+    .before .before .check .ensures)
 
 returns-7 : tie.Need-returns-7
 returns-7 c = rw (c .before .before .match .keys7) (c .enter-commits .ensures _ _ _ _ _ _ _ _)
@@ -61,7 +72,8 @@ returns-11 : tie.Need-returns-11
 returns-11 c = rw (c .before .before .before .before .match .keys11) (c .look-commits .ensures _ _ _ _ _ _)
 
 returns-12 : tie.Need-returns-12
-returns-12 c = rw (c .before .before .before .before .before .before .before .match .keys12) (c .before .before .add-commit .ensures _ _ _ _ _)
+returns-12 c = rw (c .before .before .before .before .before .before .before .match .keys12) (c .before .before .add-commit .ensures _ _
+    _ _ _)
 
 returns-13 : tie.Need-returns-13
 returns-13 c = rw (c .before .before .before .match .keys13) (c .leave-commits .ensures _ _ _ _ _ _ _)
@@ -87,6 +99,8 @@ step-spec =
     (tie.spec
     (λ c. search needs) (λ c. search needs) enter-requires (λ c κs. search needs) (λ c κs. search needs) list-requests-requires
     (λ c κs. search needs) check-requires (λ c κs. search needs) (λ c κs. search needs) (λ c κs. search needs) (λ c κs. search needs)
-    (λ c κs. search needs) add-commit-requires (λ c κs. search needs) (λ c κs. search needs) (λ c κs. search needs) (λ c. search needs) returns
-    returns-2 returns-3 (λ c. search needs) returns-4 returns-5 (λ c. search needs) (λ c. search needs) returns-6 returns-7 returns-8 returns-9
+    (λ c κs. search needs) add-commit-requires (λ c κs. search needs) (λ c κs. search needs) (λ c κs. search needs) (λ c. search needs)
+    returns
+    returns-2 returns-3 (λ c. search needs) returns-4 returns-5 (λ c. search needs) (λ c. search needs) returns-6 returns-7 returns-8
+    returns-9
     returns-10 returns-11 (λ c. search needs) returns-12 returns-13 returns-14 returns-15)

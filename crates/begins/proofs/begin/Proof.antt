@@ -13,27 +13,31 @@ use Rattle.begins.proofs.begin.Statement.{statement}
 use Rattle.begins.proofs.begin.Tie as tie
 
 returns : tie.Need-returns
-returns c = rw (c .no-begin .ensures) (ends-unfit _ _ _ _ (sym (c .before .before .fit .ensures _ _ _ _ _ _) ∙ not-true _ (c .before .if1 .taken)))
+returns c = rw (c .no-begin .ensures) (ends-unfit _ _ _ _ (sym (c .before .before .fit .ensures _ _ _ _ _ _) ∙ not-true _ (c .before .if1
+    .taken)))
 
 returns-2 : tie.Need-returns-2
 unfolding begin
 returns-2 c =
     let a = c .before .before .before .before .before .before .before .args in
-    rw (c .no-begin2 .ensures) (refuses _ _ _ _ _ (sym (c .before .before .before .fit .ensures _ _ _ _ _ _) ∙ not-false _ (c .before .before .if1 .left))
+    rw (c .no-begin2 .ensures) (refuses _ _ _ _ _ (sym (c .before .before .before .fit .ensures _ _ _ _ _ _) ∙ not-false _ (c .before
+    .before .if1 .left))
     (rw (le-leb clients (a .client) (omega arith))))
 
 returns-3 : tie.Need-returns-3
 unfolding begin decode
 returns-3 c =
     let a = c .before .before .before .before .before .before .before .before .before .args in
-    rw (c .no-begin3 .ensures) (refuses _ _ _ _ _ (sym (c .before .before .before .before .before .fit .ensures _ _ _ _ _ _) ∙ not-false _ (c .before .before .before .before .if1 .left))
+    rw (c .no-begin3 .ensures) (refuses _ _ _ _ _ (sym (c .before .before .before .before .before .fit .ensures _ _ _ _ _ _) ∙ not-false
+    _ (c .before .before .before .before .if1 .left))
     (rw (lt-leb clients (a .client) (omega arith), ne-eqb (getD (a .number .now) (a .client) 0) 0 (c .before .if3 .taken))))
 
 returns-4 : tie.Need-returns-4
 unfolding begin decode
 returns-4 c =
     let a = c .before .before .before .before .before .before .before .before .before .before .before .args in
-    rw (c .no-begin4 .ensures) (refuses _ _ _ _ _ (sym (c .before .before .before .before .before .before .before .fit .ensures _ _ _ _ _ _) ∙ not-false _ (c .before .before .before .before .before .before .if1 .left))
+    rw (c .no-begin4 .ensures) (refuses _ _ _ _ _ (sym (c .before .before .before .before .before .before .before .fit .ensures _ _ _ _ _
+    _) ∙ not-false _ (c .before .before .before .before .before .before .if1 .left))
     (rw (
       lt-leb clients (a .client) (omega arith),
       eq-eqb (getD (a .number .now) (a .client) 0) 0 (omega arith),
@@ -44,7 +48,8 @@ returns-5 : tie.Need-returns-5
 unfolding begin begun decode
 returns-5 c =
     let a = c .before .before .before .before .before .before .before .before .before .before .before .args in
-    settles _ _ _ _ _ _ _ (sym (c .before .before .before .before .before .before .before .fit .ensures _ _ _ _ _ _) ∙ not-false _ (c .before .before .before .before .before .before .if1 .left))
+    settles _ _ _ _ _ _ _ (sym (c .before .before .before .before .before .before .before .fit .ensures _ _ _ _ _ _) ∙ not-false _ (c
+    .before .before .before .before .before .before .if1 .left))
     (rw (
       lt-leb clients (a .client) (omega arith),
       eq-eqb (getD (a .number .now) (a .client) 0) 0 (omega arith),
@@ -57,5 +62,6 @@ begin-spec =
     (tie.spec
     (λ c κs. search needs) (λ c κs. search needs) returns (λ c κs. search needs) returns-2 (λ c. search needs) (λ c. search needs)
     (λ c κs. search needs) returns-3 (λ c κs. search needs) returns-4 (λ c. search needs) (λ c. search needs) (λ c. search needs)
-    (λ c. search needs) (λ c. search needs) (λ c. search needs) (λ c. search needs) (λ c. search needs) (λ c. search needs) (λ c. search needs)
+    (λ c. search needs) (λ c. search needs) (λ c. search needs) (λ c. search needs) (λ c. search needs) (λ c. search needs) (λ c. search
+    needs)
     (λ c. search needs) (λ c. search needs) (λ c. search needs) (λ c. search needs) (λ c. search needs) returns-5)

@@ -12,22 +12,35 @@ use Rattle.lines.proofs.advance_said.Statement.{statement}
 use Rattle.lines.proofs.advance_said.Tie as tie
 
 slice-aggregate-advance : tie.Need-slice-aggregate-advance
-slice-aggregate-advance c = simp length-take (omega (arith, c .before .before .before .before .before .before .before .before .before .before .front .ensures .0))
+slice-aggregate-advance c = simp length-take (omega (
+  arith,
+  c .before .before .before .before .before .before .before .before .before
+      .before .front .ensures .0,
+))
 
 slice-aggregate-advance-2 : tie.Need-slice-aggregate-advance-2
-slice-aggregate-advance-2 c = simp length-take (omega (arith, c .before .before .before .before .before .before .before .before .before .front2 .ensures .0))
+slice-aggregate-advance-2 c = simp length-take (omega (
+  arith,
+  c .before .before .before .before .before .before .before .before .before
+      .front2 .ensures .0,
+))
 
 progress-line-requires : tie.Need-progress-line-requires
-progress-line-requires c κs = c .before .before .before .before .before .before .before .before .before .before .before .before .before .before .before .before .before .before .before .before .before .before .pre
+progress-line-requires c κs = c .before .before .before .before .before .before .before .before .before .before .before .before .before
+    .before .before .before .before .before .before .before .before .before .pre
 
 returns : tie.Need-returns
 returns c =
-    let a = c .before .before .before .before .before .before .before .before .before .before .before .before .before .before .before .before .before .before .before .before .before .before .before .before .before .before .args in
-    let d = c .before .before .before .before .before .before .before .before .before .before .before .before .before .before .before .before .before .before .before .before .before .front in
-    let e = c .before .before .before .before .before .before .before .before .before .before .before .before .before .before .before .before .before .before .before .front2 in
+    let a = c .before .before .before .before .before .before .before .before .before .before .before .before .before .before .before
+    .before .before .before .before .before .before .before .before .before .before .before .args in
+    let d = c .before .before .before .before .before .before .before .before .before .before .before .before .before .before .before
+    .before .before .before .before .before .before .front in
+    let e = c .before .before .before .before .before .before .before .before .before .before .before .before .before .before .before
+    .before .before .before .before .front2 in
     let l = c .before .before .before .progress-line in
     spoken (whole (a .h) (held (a .stage) (a .number) (a .snapshot) (a .request) (a .commit) (a .requestWaits) (a .commitWaits)))
-    (a .rows .now) (a .commits .now) _ _ _ _ (call.Advance (a .client)) (Advance (a .client)) (d .result) (e .result) _ _ _ _ _ _ (d .ensures .1) (e .ensures .1)
+    (a .rows .now) (a .commits .now) _ _ _ _ (call.Advance (a .client)) (Advance (a .client)) (d .result) (e .result) _ _ _ _ _ _ (d
+    .ensures .1) (e .ensures .1)
     (c .before .before .before .before .before .before .before .before .before .advance .ensures)
     refl refl (l .ensures .0) (l .ensures .1)
 

@@ -12,24 +12,38 @@ use Rattle.lines.proofs.begin_said.Statement.{statement}
 use Rattle.lines.proofs.begin_said.Tie as tie
 
 slice-aggregate-begin : tie.Need-slice-aggregate-begin
-slice-aggregate-begin c = simp length-take (omega (arith, c .before .before .before .before .before .before .before .before .before .before .front .ensures .0))
+slice-aggregate-begin c = simp length-take (omega (
+  arith,
+  c .before .before .before .before .before .before .before .before .before
+      .before .front .ensures .0,
+))
 
 slice-aggregate-begin-2 : tie.Need-slice-aggregate-begin-2
-slice-aggregate-begin-2 c = simp length-take (omega (arith, c .before .before .before .before .before .before .before .before .before .front2 .ensures .0))
+slice-aggregate-begin-2 c = simp length-take (omega (
+  arith,
+  c .before .before .before .before .before .before .before .before .before
+      .front2 .ensures .0,
+))
 
 begun-line-requires : tie.Need-begun-line-requires
-begun-line-requires c κs = c .before .before .before .before .before .before .before .before .before .before .before .before .before .before .before .before .before .before .pre
+begun-line-requires c κs = c .before .before .before .before .before .before .before .before .before .before .before .before .before
+    .before .before .before .before .before .pre
 
 returns : tie.Need-returns
 returns c =
-    let a = c .before .before .before .before .before .before .before .before .before .before .before .before .before .before .before .before .before .before .before .before .before .before .args in
-    let d = c .before .before .before .before .before .before .before .before .before .before .before .before .before .before .before .before .before .front in
-    let e = c .before .before .before .before .before .before .before .before .before .before .before .before .before .before .before .front2 in
+    let a = c .before .before .before .before .before .before .before .before .before .before .before .before .before .before .before
+    .before .before .before .before .before .before .before .args in
+    let d = c .before .before .before .before .before .before .before .before .before .before .before .before .before .before .before
+    .before .before .front in
+    let e = c .before .before .before .before .before .before .before .before .before .before .before .before .before .before .before
+    .front2 in
     let l = c .before .before .before .begun-line in
     spoken (whole (a .h) (held (a .stage) (a .number) (a .snapshot) (a .request) (a .commit) (a .requestWaits) (a .commitWaits)))
-    (a .rows .now) (a .commits .now) _ _ _ _ (call.Begin (a .client)) (Begin (a .client)) (d .result) (e .result) _ _ _ _ _ _ (d .ensures .1) (e .ensures .1)
+    (a .rows .now) (a .commits .now) _ _ _ _ (call.Begin (a .client)) (Begin (a .client)) (d .result) (e .result) _ _ _ _ _ _ (d .ensures
+    .1) (e .ensures .1)
     (c .before .before .before .before .before .begin .ensures)
-    (sym (take-append-drop (d .result) (a .rows .now))) (sym (take-append-drop (e .result) (a .commits .now))) (l .ensures .0) (l .ensures .1)
+    (sym (take-append-drop (d .result) (a .rows .now))) (sym (take-append-drop (e .result) (a .commits .now))) (l .ensures .0) (l
+    .ensures .1)
 
 pub begin-said-spec : {M : Type 1} → statement M
 begin-said-spec =

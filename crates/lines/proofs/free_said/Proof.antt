@@ -30,7 +30,8 @@ returns c =
     λ n s q m b w. spoken (whole (a .h) (clientsOf (a .stage .now) n s q m b w))
     (a .rows .now) (a .commits .now) _ _ _ _ (call.Free) (Free) (d .result) (e .result) _ _ _ _ _ _ (d .ensures .1) (e .ensures .1)
     (c .before .before .before .before .free .ensures n s q m b w)
-    (sym (take-append-drop (d .result) (a .rows .now))) (sym (take-append-drop (e .result) (a .commits .now))) (l .ensures .0) (l .ensures .1)
+    (sym (take-append-drop (d .result) (a .rows .now))) (sym (take-append-drop (e .result) (a .commits .now))) (l .ensures .0) (l
+    .ensures .1)
 
 pub free-said-spec : {M : Type 1} → statement M
 free-said-spec =

@@ -25,30 +25,40 @@ slice-aggregate-set-up-2 : tie.Need-slice-aggregate-set-up-2
 slice-aggregate-set-up-2 c = simp length-take (omega (arith, c .before .before .front2 .ensures .0))
 
 free-line-requires : tie.Need-free-line-requires
-free-line-requires c κs = c .before .before .before .before .before .before .before .before .before .before .before .before .before .before .pre
+free-line-requires c κs = c .before .before .before .before .before .before .before .before .before .before .before .before .before
+    .before .pre
 
 returns-2 : tie.Need-returns-2
 returns-2 c =
-    let a = c .before .before .before .before .before .before .before .before .before .before .before .before .before .before .before .before .before .before .before .before .before .before .before .before .before .before .before .args in
-    let d = c .before .before .before .before .before .before .before .before .before .before .before .before .before .before .before .before .before .before .before .before .before .before .front in
-    let e = c .before .before .before .before .before .before .before .before .before .before .before .before .before .before .before .before .before .before .before .before .before .front2 in
-    let t = c .before .before .before .before .before .before .before .before .before .before .before .before .before .before .before .before .before .before .set-up in
+    let a = c .before .before .before .before .before .before .before .before .before .before .before .before .before .before .before
+    .before .before .before .before .before .before .before .before .before .before .before .before .args in
+    let d = c .before .before .before .before .before .before .before .before .before .before .before .before .before .before .before
+    .before .before .before .before .before .before .before .front in
+    let e = c .before .before .before .before .before .before .before .before .before .before .before .before .before .before .before
+    .before .before .before .before .before .before .front2 in
+    let t = c .before .before .before .before .before .before .before .before .before .before .before .before .before .before .before
+    .before .before .before .set-up in
     let l = c .before .before .before .before .before .before .before .before .before .before .before .before .free-line in
     set-up-spoken (whole (a .h) (held (a .stage) (a .number) (a .snapshot) (a .request) (a .commit) (a .requestWaits) (a .commitWaits)))
     (a .rows .now) (a .commits .now) _ _ _ _ (SetUp (a .count) (a .first) (a .limit)) (a .count) (a .first)
-    (a .limit) (d .result) (e .result) (t .result .store) _ _ _ _ _ (t .result .answer) (c .before .before .before .before .before .before .before .before .before .before .before .before .before .before .before .before .before .before .before .before .before .before .before .if1 .left)
-    (rw (c .before .before .before .before .before .before .before .before .enum-told .given .1) (c .spread .ensures)) (d .ensures .1) (e .ensures .1) (t .ensures) refl refl (l .ensures .0) (l .ensures .1)
+    (a .limit) (d .result) (e .result) (t .result .store) _ _ _ _ _ (t .result .answer) (c .before .before .before .before .before
+    .before .before .before .before .before .before .before .before .before .before .before .before .before .before .before .before
+    .before .before .if1 .left)
+    (rw (c .before .before .before .before .before .before .before .before .enum-told .given .1) (c .spread .ensures)) (d .ensures .1) (e
+    .ensures .1) (t .ensures) refl refl (l .ensures .0) (l .ensures .1)
 
 returns-3 : tie.Need-returns-3
 returns-3 c =
-    let a = c .before .before .before .before .before .before .before .before .before .before .before .before .before .before .before .before .before .before .before .args in
+    let a = c .before .before .before .before .before .before .before .before .before .before .before .before .before .before .before
+    .before .before .before .before .args in
     let d = c .before .before .before .before .before .before .before .before .before .before .before .before .before .before .front in
     let e = c .before .before .before .before .before .before .before .before .before .before .before .before .before .front2 in
     let t = c .before .before .before .before .before .before .before .before .before .before .set-up in
     let l = c .before .before .before .before .free-line in
     set-up-spoken (whole (a .h) (held (a .stage) (a .number) (a .snapshot) (a .request) (a .commit) (a .requestWaits) (a .commitWaits)))
     (a .rows .now) (a .commits .now) _ _ _ _ (SetUp (a .count) (a .first) (a .limit)) (a .count) (a .first)
-    (a .limit) (d .result) (e .result) (t .result .store) _ _ _ _ _ (t .result .answer) (c .before .before .before .before .before .before .before .before .before .before .before .before .before .before .before .if1 .left)
+    (a .limit) (d .result) (e .result) (t .result .store) _ _ _ _ _ (t .result .answer) (c .before .before .before .before .before
+    .before .before .before .before .before .before .before .before .before .before .if1 .left)
     (rw (c .enum-told2 .given .1) refl) (d .ensures .1) (e .ensures .1) (t .ensures) refl refl (l .ensures .0) (l .ensures .1)
 
 pub set-up-said-spec : {M : Type 1} → statement M

@@ -19,11 +19,13 @@ slice-aggregate-trim-2 : tie.Need-slice-aggregate-trim-2
 slice-aggregate-trim-2 c = simp length-take (omega (arith, c .before .before .front2 .ensures .0))
 
 dropped-line-requires : tie.Need-dropped-line-requires
-dropped-line-requires c κs = c .before .before .before .before .before .before .before .before .before .before .before .before .before .before .before .pre
+dropped-line-requires c κs = c .before .before .before .before .before .before .before .before .before .before .before .before .before
+    .before .before .pre
 
 returns : tie.Need-returns
 returns c =
-    let a = c .before .before .before .before .before .before .before .before .before .before .before .before .before .before .before .before .before .before .before .args in
+    let a = c .before .before .before .before .before .before .before .before .before .before .before .before .before .before .before
+    .before .before .before .before .args in
     let d = c .before .before .before .before .before .before .before .before .before .before .before .before .before .before .front in
     let e = c .before .before .before .before .before .before .before .before .before .before .before .before .front2 in
     let l = c .before .before .before .dropped-line in

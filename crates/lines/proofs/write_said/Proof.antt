@@ -20,18 +20,21 @@ slice-aggregate-write-2 : tie.Need-slice-aggregate-write-2
 slice-aggregate-write-2 c = simp length-take (omega (arith, c .before .before .before .front2 .ensures .0))
 
 free-line-requires : tie.Need-free-line-requires
-free-line-requires c κs = c .before .before .before .before .before .before .before .before .before .before .before .before .before .before .before .before .pre
+free-line-requires c κs = c .before .before .before .before .before .before .before .before .before .before .before .before .before
+    .before .before .before .pre
 
 returns : tie.Need-returns
 returns c =
-    let a = c .before .before .before .before .before .before .before .before .before .before .before .before .before .before .before .before .before .before .before .before .args in
+    let a = c .before .before .before .before .before .before .before .before .before .before .before .before .before .before .before
+    .before .before .before .before .before .args in
     let d = c .before .before .before .before .before .before .before .before .before .before .before .before .before .before .front in
     let e = c .before .before .before .before .before .before .before .before .before .before .before .before .front2 in
     let l = c .before .before .before .free-line in
     λ s q m b w. spoken (whole (a .h) (clientsOf (a .stage .now) (a .number .now) s q m b w))
     (a .rows .now) (a .commits .now) _ _ _ _ (call.Write (a .client) (a .cell) (valueIn (a .line .now) (a .place)))
     (Write (a .client) (a .cell) (a .place)) (d .result) (e .result) _ _ _ _ _ _ (d .ensures .1) (e .ensures .1)
-    (rw (c .before .before .before .before .before .before .before .before .before .before .before .value-in .ensures) at (c .before .before .before .before .before .before .before .write .ensures s q m b w))
+    (rw (c .before .before .before .before .before .before .before .before .before .before .before .value-in .ensures) at (c .before
+    .before .before .before .before .before .before .write .ensures s q m b w))
     refl (sym (take-append-drop (e .result) (a .commits .now))) (l .ensures .0) (l .ensures .1)
 
 pub write-said-spec : {M : Type 1} → statement M

@@ -20,10 +20,19 @@ returns-2 c = λ g s q m b w e. rw (c .no-figure2 .ensures) (image-stays _ _ e _
     (sym (c .before .before .before .before .limit-reached .ensures) ∙ c .before .before .before .if1 .left) (omega arith)))
 
 append-row-requires : tie.Need-append-row-requires
-append-row-requires c κs = (omega arith, (omega arith, c .before .before .before .before .before .before .before .before .before .before .pre .1 .1 .1 .1 .0))
+append-row-requires c κs = (
+  omega arith,
+  (
+    omega arith,
+    c .before .before .before .before .before .before .before .before .before .before
+        .pre .1 .1 .1 .1 .0,
+  ),
+)
 
 returns-3 : tie.Need-returns-3
-returns-3 c = λ g s q m b w e. added-row _ _ e _ _ _ (sym (c .before .before .before .before .before .before .before .before .before .limit-reached .ensures) ∙ c .before .before .before .before .before .before .before .before .if1 .left) _ (omega arith) (c .before .before .before .before .append-row .ensures)
+returns-3 c = λ g s q m b w e. added-row _ _ e _ _ _ (sym (c .before .before .before .before .before .before .before .before .before
+    .limit-reached .ensures) ∙ c .before .before .before .before .before .before .before .before .if1 .left) _ (omega arith) (c .before
+    .before .before .before .append-row .ensures)
 
 pub add-row-spec : {M : Type 1} → statement M
 add-row-spec =

@@ -1,9 +1,7 @@
 -- `queues::finish`: the client is closed.
 -- Assumes nothing.
-use Rattle.spec.specs.Image.{clientsOf}
 use Rattle.spec.specs.Bytes.{decode}
 use Rattle.spec.specs.Steps.{finished}
-use Rattle.record.specs.Inner.{whole}
 use Rattle.queues.proofs.Closing.{closes}
 use borrow.Author.Needs.{needs}
 use Rattle.queues.proofs.finish.Statement.{statement}

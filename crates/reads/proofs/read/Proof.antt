@@ -35,7 +35,8 @@ returns-4 : tie.Need-returns-4
 unfolding read decode
 returns-4 c =
     let a = c .before .before .before .before .before .before .before .before .args in
-    λ q m b w. refuses _ _ _ _ _ (sym (c .before .before .before .before .before .fit .ensures _ _ _ _ _ _) ∙ not-false _ (c .before .before .before .before .if1 .left))
+    λ q m b w. refuses _ _ _ _ _ (sym (c .before .before .before .before .before .fit .ensures _ _ _ _ _ _) ∙ not-false _ (c .before
+    .before .before .before .if1 .left))
     (rw (
       lt-leb clients (a .client) (omega arith),
       lt-leb 1024 (a .cell) (omega arith),
@@ -46,7 +47,8 @@ returns-5 : tie.Need-returns-5
 unfolding read decode
 returns-5 c =
     let a = c .before .before .before .before .before .before .before .before .before .before .args in
-    λ q m b w. refuses _ _ _ _ _ (sym (c .before .before .before .before .before .before .before .fit .ensures _ _ _ _ _ _) ∙ not-false _ (c .before .before .before .before .before .before .if1 .left))
+    λ q m b w. refuses _ _ _ _ _ (sym (c .before .before .before .before .before .before .before .fit .ensures _ _ _ _ _ _) ∙ not-false _
+    (c .before .before .before .before .before .before .if1 .left))
     (rw (
       lt-leb clients (a .client) (omega arith),
       lt-leb 1024 (a .cell) (omega arith),
@@ -55,20 +57,29 @@ returns-5 c =
     ))
 
 look-for-requires : tie.Need-look-for-requires
-look-for-requires c κs = let f = fit-of _ _ _ (sym (c .before .before .before .before .before .before .before .before .before .before .fit .ensures [] [] [] [] [] []) ∙ not-false _ (c .before .before .before .before .before .before .before .before .before .if1 .left)) in (omega arith, omega arith)
+look-for-requires c κs = let f = fit-of _ _ _ (sym (c .before .before .before .before .before .before .before .before .before .before
+    .fit .ensures [] [] [] [] [] []) ∙ not-false _ (c .before .before .before .before .before .before .before .before .before .if1
+    .left)) in (omega arith, omega arith)
 
 returns-6 : tie.Need-returns-6
-returns-6 c = λ q m b w. refuses _ _ _ _ _ (sym (c .before .before .before .before .before .before .before .before .before .before .before .before .before .before .fit .ensures _ _ _ _ _ _) ∙ not-false _ (c .before .before .before .before .before .before .before .before .before .before .before .before .before .if1 .left))
-    (read-found _ _ _ _ _ (omega arith) (omega arith) (c .before .before .before .before .before .before .before .before .before .if4 .left) (omega arith) _ _ (c .before .seen .given .1) (c .before .before .before .look-for .ensures))
+returns-6 c = λ q m b w. refuses _ _ _ _ _ (sym (c .before .before .before .before .before .before .before .before .before .before
+    .before .before .before .before .fit .ensures _ _ _ _ _ _) ∙ not-false _ (c .before .before .before .before .before .before .before
+    .before .before .before .before .before .before .if1 .left))
+    (read-found _ _ _ _ _ (omega arith) (omega arith) (c .before .before .before .before .before .before .before .before .before .if4
+    .left) (omega arith) _ _ (c .before .seen .given .1) (c .before .before .before .look-for .ensures))
 
 returns-7 : tie.Need-returns-7
-returns-7 c = λ q m b w. refuses _ _ _ _ _ (sym (c .before .before .before .before .before .before .before .before .before .before .before .before .before .fit .ensures _ _ _ _ _ _) ∙ not-false _ (c .before .before .before .before .before .before .before .before .before .before .before .before .if1 .left))
-    (read-found _ _ _ _ _ (omega arith) (omega arith) (c .before .before .before .before .before .before .before .before .if4 .left) (omega arith) _ _ (c .enum-told .given .1) (c .before .before .look-for .ensures))
+returns-7 c = λ q m b w. refuses _ _ _ _ _ (sym (c .before .before .before .before .before .before .before .before .before .before
+    .before .before .before .fit .ensures _ _ _ _ _ _) ∙ not-false _ (c .before .before .before .before .before .before .before .before
+    .before .before .before .before .if1 .left))
+    (read-found _ _ _ _ _ (omega arith) (omega arith) (c .before .before .before .before .before .before .before .before .if4 .left)
+    (omega arith) _ _ (c .enum-told .given .1) (c .before .before .look-for .ensures))
 
 pub read-spec : {M : Type 1} → statement M
 read-spec =
     tie.close
     (tie.spec
-    (λ c κs. search needs) returns returns-2 returns-3 (λ c. search needs) (λ c. search needs) returns-4 (λ c. search needs) (λ c. search needs)
+    (λ c κs. search needs) returns returns-2 returns-3 (λ c. search needs) (λ c. search needs) returns-4 (λ c. search needs) (λ c. search
+    needs)
     returns-5 (λ c. search needs) (λ c. search needs) (λ c. search needs) (λ c. search needs) look-for-requires (λ c. search needs)
     (λ c. search needs) returns-6 returns-7)

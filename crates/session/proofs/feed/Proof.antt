@@ -52,36 +52,80 @@ returns-2 c =
 returns-3 : tie.Need-returns-3 Inv-loop μ-loop
 returns-3 c =
     let l = c .before .before .before .before .before .loop .inv in
-    let e : c .before .newline .result ≡ length (c .before .before .before .before .before .before .before .before .before .before .args .buf .now) = omega arith in
-    record { text = l .5; state = l .6; rest = l .7; within = l .0; room = l .1; stopped = inr (sym (c .before .newline .ensures .0) ∙ e); moved = l .8 }
+    let e : c .before .newline .result ≡ length (c .before .before .before .before .before .before .before .before .before .before .args
+    .buf .now) = omega arith in
+    record {
+      text = l .5;
+      state = l .6;
+      rest = l .7;
+      within = l .0;
+      room = l .1;
+      stopped = inr (sym (c .before .newline .ensures .0) ∙
+          e);
+      moved = l .8;
+    }
 
 add-from : tie.Need-add-from Inv-loop μ-loop
-add-from c = omega (arith, c .before .before .before .before .before .before .before .before .before .before .before .before .before .before .before .before .before .before .before .if3 .left, c .before .before .before .before .before .before .before .before .before .before .before .before .before .before .before .before .before .before .before .before .before .before .before .before .before .before .before .before .before .good .1 .1 .1 .1 .1 .1 .1 .1 .0 .0)
+add-from c = omega (
+  arith,
+  c .before .before .before .before .before .before .before .before .before .before .before .before .before
+      .before .before .before .before .before .before .if3 .left,
+  c .before .before .before .before .before .before .before .before .before
+      .before .before .before .before .before .before .before .before .before .before .before .before .before .before .before .before
+      .before .before .before .before .good .1 .1 .1 .1 .1 .1 .1 .1 .0 .0,
+)
 
 loop-less : tie.Need-loop-less Inv-loop μ-loop
-loop-less c = omega (arith, c .before .before .before .before .before .before .before .before .before .before .before .before .before .before .before .before .before .before .before .before .newline .ensures .1 .0, c .before .before .before .before .before .before .before .before .before .before .before .before .before .before .before .before .before .before .before .before .before .before .before .loop-test .taken)
+loop-less c = omega (
+  arith,
+  c .before .before .before .before .before .before .before .before .before .before .before .before .before
+      .before .before .before .before .before .before .before .newline .ensures .1 .0,
+  c .before .before .before .before .before .before
+      .before .before .before .before .before .before .before .before .before .before .before .before .before .before .before .before
+      .before .loop-test .taken,
+)
 
 loop-again : tie.Need-loop-again Inv-loop μ-loop
 loop-again c =
-    let l = c .before .before .before .before .before .before .before .before .before .before .before .before .before .before .before .before .before .before .before .before .before .before .before .before .loop in
-    let n = c .before .before .before .before .before .before .before .before .before .before .before .before .before .before .before .before .before .before .before .before .newline in
-    let s = c .before .before .before .before .before .before .before .before .before .before .before .before .before .before .before .before .before .before .before .before .before .before .before .before .before .before .before .before .before .args .buf .now in
+    let l = c .before .before .before .before .before .before .before .before .before .before .before .before .before .before .before
+    .before .before .before .before .before .before .before .before .before .loop in
+    let n = c .before .before .before .before .before .before .before .before .before .before .before .before .before .before .before
+    .before .before .before .before .before .newline in
+    let s = c .before .before .before .before .before .before .before .before .before .before .before .before .before .before .before
+    .before .before .before .before .before .before .before .before .before .before .before .before .before .before .args .buf .now in
     let t = c .before .before .before .before .before .before .before .answer-line in
-    let h : n .result < length s = omega (arith, c .before .before .before .before .before .before .before .before .before .before .before .before .before .before .before .before .before .before .before .if3 .left) in
-    let w = memoryOf (whole (l .next) (clientsOf (l .stage) (l .number) (l .snapshot) (l .request) (l .commit) (l .requestWaits) (l .commitWaits)))
+    let h : n .result < length s = omega (
+      arith,
+      c .before .before .before .before .before .before .before .before .before .before
+          .before .before .before .before .before .before .before .before .before .if3 .left,
+    ) in
+    let w = memoryOf (whole (l .next) (clientsOf (l .stage) (l .number) (l .snapshot) (l .request) (l .commit) (l .requestWaits) (l
+    .commitWaits)))
     (l .rows) (l .commits) in
     let k = t .last .1 in
-    let w′ = memoryOf (whole (t .result .head) (clientsOf (k .0) (k .1 .0) (k .1 .1 .0) (k .1 .1 .1 .0) (k .1 .1 .1 .1 .0) (k .1 .1 .1 .1 .1 .0)
+    let w′ = memoryOf (whole (t .result .head) (clientsOf (k .0) (k .1 .0) (k .1 .1 .0) (k .1 .1 .1 .0) (k .1 .1 .1 .1 .0) (k .1 .1 .1 .1
+    .1 .0)
     (k .1 .1 .1 .1 .1 .1 .0))) (k .1 .1 .1 .1 .1 .1 .1 .1 .0) (k .1 .1 .1 .1 .1 .1 .1 .1 .1 .0) in
     let out′ = k .1 .1 .1 .1 .1 .1 .1 .1 .1 .1 .0 in
     let size = t .kept .1 .1 .1 .1 .1 .1 .1 .1 .1 in (
       omega (arith, h),
-      omega (arith, t .ensures .room, size .1 .1 .0, c .before .before .before .before .before .before .before .before .before .before .before .before .before .before .before .before .before .before .before .before .before .if2 .left, c .before .before .before .before .before .before .before .before .before .before .before .before .before .before .before .before .before .before .before .before .before .before .if1 .left),
+      omega (
+        arith,
+        t .ensures .room,
+        size .1 .1 .0,
+        c .before .before .before .before .before .before .before .before .before .before
+            .before .before .before .before .before .before .before .before .before .before .before .if2 .left,
+        c .before .before .before
+            .before .before .before .before .before .before .before .before .before .before .before .before .before .before .before
+            .before .before .before .before .if1 .left,
+      ),
       size .1 .1 .0 ∙ l .inv .2,
       size .0 ∙ l .inv .3,
       size .1 .0 ∙ l .inv .4,
-      text-more s (l .from) (n .result) (n .ensures .0) (n .ensures .1 .0) h w w′ (l .out) out′ (l .used) (t .result .used) (t .ensures) _ (l .inv .5),
-      state-more s (l .from) (n .result) (n .ensures .0) (n .ensures .1 .0) h w w′ (l .out) out′ (l .used) (t .result .used) (t .ensures) _ (l .inv .6),
+      text-more s (l .from) (n .result) (n .ensures .0) (n .ensures .1 .0) h w w′ (l .out) out′ (l .used) (t .result .used) (t .ensures)
+          _ (l .inv .5),
+      state-more s (l .from) (n .result) (n .ensures .0) (n .ensures .1 .0) h w w′ (l .out) out′ (l .used) (t .result .used) (t .ensures)
+          _ (l .inv .6),
       sym (rest-at s (l .from) (n .result) (n .ensures .0) (n .ensures .1 .0) h) ∙ l .inv .7,
       inl (onward (l .inv .8) (n .ensures .1 .0)),
     )

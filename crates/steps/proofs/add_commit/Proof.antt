@@ -15,7 +15,8 @@ returns c = λ s q b w d. rw (c .refuse .ensures) (image-stays _ d _ _ _ (commit
 returns-2 : tie.Need-returns-2
 returns-2 c =
     let a = c .before .before .before .before .before .before .before .before .before .before .before .args in
-    λ s q b w d. commit-added (whole (a .h) (clientsOf (a .stage .now) (a .number .now) s q (a .commit .now) b w)) d (a .commits .now) (a .client) _
+    λ s q b w d. commit-added (whole (a .h) (clientsOf (a .stage .now) (a .number .now) s q (a .commit .now) b w)) d (a .commits .now) (a
+    .client) _
     (omega arith) (c .before .before .before .append-commit .ensures)
 
 pub add-commit-spec : {M : Type 1} → statement M

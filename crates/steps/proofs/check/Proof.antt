@@ -9,7 +9,9 @@ use Rattle.steps.proofs.check.Tie as tie
 
 returns : tie.Need-returns
 returns c = removed-ends _ _ _ _ _ _ _ (c .before .before .remove .ensures) ∙ ap (encode _ _ _)
-    (check-found _ _ _ _ _ (sym (c .before .before .before .before .before .before .before .before .before .before .before .before .found .given .1) ∙ c .before .before .before .before .before .before .before .before .before .before .before .before .before .before .conflict .ensures))
+    (check-found _ _ _ _ _ (sym (c .before .before .before .before .before .before .before .before .before .before .before .before .found
+    .given .1) ∙ c .before .before .before .before .before .before .before .before .before .before .before .before .before .before
+    .conflict .ensures))
 
 returns-2 : tie.Need-returns-2
 returns-2 c = c .go-on .ensures _ _ _ _ _ _ _ _ ∙ ap (encode _ _ _) (check-found _ _ _ _ _

@@ -11,7 +11,8 @@ returns : tie.Need-returns
 unfolding enter decode
 returns c =
     let t = c .before .before .before .before .before .before .before .before .before .before .has-rows in
-    λ e. rw (← t .ensures, not-true (t .result) (c .before .before .before .before .before .before .before .before .before .if1 .taken)) (c .finish .ensures _ e)
+    λ e. rw (← t .ensures, not-true (t .result) (c .before .before .before .before .before .before .before .before .before .if1 .taken))
+    (c .finish .ensures _ e)
 
 returns-2 : tie.Need-returns-2
 unfolding enter decode

@@ -5,7 +5,6 @@ use lib.ListN.{getD}
 use Rattle.spec.specs.Rows.{rowsIn}
 use Rattle.spec.proofs.Rows.{length-rows, filter-fewer}
 use Rattle.removal.specs.Inner.{otherTag}
-use Rattle.spec.specs.Image.{clientsOf}
 use Rattle.spec.specs.Calls.{removed}
 use Rattle.spec.specs.Bytes.{decode, storeOf}
 use Rattle.record.specs.Inner.{whole, held}
@@ -29,7 +28,8 @@ cast-left c =
 returns : tie.Need-returns
 unfolding removed decode storeOf otherTag
 returns c =
-    let a = c .before .before .before .before .before .before .before .before .before .before .before .before .before .before .before .args in
+    let a = c .before .before .before .before .before .before .before .before .before .before .before .before .before .before .before
+    .args in
     let r = c .before .before .before .before .before .before .before .before .before .before .remove-rows in
     let s = whole (a .h) (held (a .stage) (a .number) (a .snapshot) (a .request) (a .commit) (a .requestWaits) (a .commitWaits)) in
     record {

@@ -8,7 +8,10 @@ use Rattle.store.proofs.advance.Statement.{statement}
 use Rattle.store.proofs.advance.Tie as tie
 
 returns : tie.Need-returns
-returns c = by-value (advance (c .before .before .before .before .before .before .before .before .before .before .before .before .before .before .before .before .before .before .before .before .before .before .before .before .before .args .client)) _ _ (c .before .before .before .before .before .before .before .before .before .before .before .before .before .before .before .head-of .ensures) (sym (c .joined .ensures)) (c .before .before .before .before .before .advance .ensures)
+returns c = by-value (advance (c .before .before .before .before .before .before .before .before .before .before .before .before .before
+    .before .before .before .before .before .before .before .before .before .before .before .before .args .client)) _ _ (c .before
+    .before .before .before .before .before .before .before .before .before .before .before .before .before .before .head-of
+    .ensures) (sym (c .joined .ensures)) (c .before .before .before .before .before .advance .ensures)
 
 pub advance-spec : {M : Type 1} → statement M
 advance-spec =

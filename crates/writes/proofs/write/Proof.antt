@@ -1,6 +1,6 @@
 -- `writes::write`: the refusals in the definition's order, then the row.
 -- Assumes nothing.
-use mathlib.Core.Path.{_≡_, sym, _∙_}
+use mathlib.Core.Path.{sym, _∙_}
 use mathlib.Core.List.{[]}
 use native.Mathlib.Omega.{arith}
 use borrow.Author.Tests.{lt-leb, le-leb, eq-eqb, ne-eqb, not-true, not-false}
@@ -20,27 +20,31 @@ use Rattle.writes.proofs.write.Statement.{statement}
 use Rattle.writes.proofs.write.Tie as tie
 
 returns : tie.Need-returns
-returns c = λ s q m b w. rw (c .no-figure .ensures) (ends-unfit _ _ _ _ (sym (c .before .before .fit .ensures _ _ _ _ _ _) ∙ not-true _ (c .before .if1 .taken)))
+returns c = λ s q m b w. rw (c .no-figure .ensures) (ends-unfit _ _ _ _ (sym (c .before .before .fit .ensures _ _ _ _ _ _) ∙ not-true _
+    (c .before .if1 .taken)))
 
 returns-2 : tie.Need-returns-2
 unfolding write
 returns-2 c =
     let a = c .before .before .before .before .before .before .before .args in
-    λ s q m b w. rw (c .no-figure2 .ensures) (refuses _ _ _ _ _ (sym (c .before .before .before .fit .ensures _ _ _ _ _ _) ∙ not-false _ (c .before .before .if1 .left))
+    λ s q m b w. rw (c .no-figure2 .ensures) (refuses _ _ _ _ _ (sym (c .before .before .before .fit .ensures _ _ _ _ _ _) ∙ not-false _
+    (c .before .before .if1 .left))
     (rw (le-leb clients (a .client) (omega arith))))
 
 returns-3 : tie.Need-returns-3
 unfolding write
 returns-3 c =
     let a = c .before .before .before .before .before .before .before .before .args in
-    λ s q m b w. rw (c .no-figure3 .ensures) (refuses _ _ _ _ _ (sym (c .before .before .before .before .fit .ensures _ _ _ _ _ _) ∙ not-false _ (c .before .before .before .if1 .left))
+    λ s q m b w. rw (c .no-figure3 .ensures) (refuses _ _ _ _ _ (sym (c .before .before .before .before .fit .ensures _ _ _ _ _ _) ∙
+    not-false _ (c .before .before .before .if1 .left))
     (rw (lt-leb clients (a .client) (omega arith), le-leb 1024 (a .cell) (omega arith))))
 
 returns-4 : tie.Need-returns-4
 unfolding write
 returns-4 c =
     let a = c .before .before .before .before .before .before .before .before .before .args in
-    λ s q m b w. rw (c .no-figure4 .ensures) (refuses _ _ _ _ _ (sym (c .before .before .before .before .before .fit .ensures _ _ _ _ _ _) ∙ not-false _ (c .before .before .before .before .if1 .left))
+    λ s q m b w. rw (c .no-figure4 .ensures) (refuses _ _ _ _ _ (sym (c .before .before .before .before .before .fit .ensures _ _ _ _ _
+    _) ∙ not-false _ (c .before .before .before .before .if1 .left))
     (rw (
       lt-leb clients (a .client) (omega arith),
       lt-leb 1024 (a .cell) (omega arith),
@@ -51,7 +55,8 @@ returns-5 : tie.Need-returns-5
 unfolding write decode
 returns-5 c =
     let a = c .before .before .before .before .before .before .before .before .before .before .before .args in
-    λ s q m b w. rw (c .no-figure5 .ensures) (refuses _ _ _ _ _ (sym (c .before .before .before .before .before .before .before .fit .ensures _ _ _ _ _ _) ∙ not-false _ (c .before .before .before .before .before .before .if1 .left))
+    λ s q m b w. rw (c .no-figure5 .ensures) (refuses _ _ _ _ _ (sym (c .before .before .before .before .before .before .before .fit
+    .ensures _ _ _ _ _ _) ∙ not-false _ (c .before .before .before .before .before .before .if1 .left))
     (rw (
       lt-leb clients (a .client) (omega arith),
       lt-leb 1024 (a .cell) (omega arith),
@@ -63,7 +68,8 @@ returns-6 : tie.Need-returns-6
 unfolding write decode
 returns-6 c =
     let a = c .before .before .before .before .before .before .before .before .before .before .before .before .before .args in
-    λ s q m b w. rw (c .no-figure6 .ensures) (refuses _ _ _ _ _ (sym (c .before .before .before .before .before .before .before .before .before .fit .ensures _ _ _ _ _ _) ∙ not-false _ (c .before .before .before .before .before .before .before .before .if1 .left))
+    λ s q m b w. rw (c .no-figure6 .ensures) (refuses _ _ _ _ _ (sym (c .before .before .before .before .before .before .before .before
+    .before .fit .ensures _ _ _ _ _ _) ∙ not-false _ (c .before .before .before .before .before .before .before .before .if1 .left))
     (rw (
       lt-leb clients (a .client) (omega arith),
       lt-leb 1024 (a .cell) (omega arith),
@@ -73,39 +79,61 @@ returns-6 c =
     )))
 
 own-row-requires : tie.Need-own-row-requires
-own-row-requires c κs = let f = fit-of _ _ _ (sym (c .before .before .before .before .before .before .before .before .before .before .fit .ensures [] [] [] [] [] []) ∙ not-false _ (c .before .before .before .before .before .before .before .before .before .if1 .left)) in omega arith
+own-row-requires c κs = let f = fit-of _ _ _ (sym (c .before .before .before .before .before .before .before .before .before .before .fit
+    .ensures [] [] [] [] [] []) ∙ not-false _ (c .before .before .before .before .before .before .before .before .before .if1 .left)) in
+    omega arith
 
 replace-row-requires : tie.Need-replace-row-requires
 replace-row-requires c κs =
-    let a = c .before .before .before .before .before .before .before .before .before .before .before .before .before .before .before .before .before .before .before .args in
+    let a = c .before .before .before .before .before .before .before .before .before .before .before .before .before .before .before
+    .before .before .before .before .args in
     let f : Found = find (isOwn (getD (a .number .now) (a .client) 0) (a .cell)) 0 (rowsIn 24 (a .h .used) (a .rows .now)) in
     let found = own-row f _ _ _ (c .before .before .before .before .own-row .ensures) (c .before .before .own .given .1) in
-    let fit = fit-of _ _ _ (sym (c .before .before .before .before .before .before .before .before .before .before .before .before .before .before .before .fit .ensures [] [] [] [] [] []) ∙ not-false _ (c .before .before .before .before .before .before .before .before .before .before .before .before .before .before .if1 .left)) in
+    let fit = fit-of _ _ _ (sym (c .before .before .before .before .before .before .before .before .before .before .before .before
+    .before .before .before .fit .ensures [] [] [] [] [] []) ∙ not-false _ (c .before .before .before .before .before .before .before
+    .before .before .before .before .before .before .before .if1 .left)) in
     (omega arith, (fit .dataRows, (found-below _ _ _ _ _ found, omega arith)))
 
 add-row-requires : tie.Need-add-row-requires
 add-row-requires c κs =
-    let a = c .before .before .before .before .before .before .before .before .before .before .before .before .before .before .before .before .before .before .before .args in
+    let a = c .before .before .before .before .before .before .before .before .before .before .before .before .before .before .before
+    .before .before .before .before .args in
     let f : Found = find (isOwn (getD (a .number .now) (a .client) 0) (a .cell)) 0 (rowsIn 24 (a .h .used) (a .rows .now)) in
     let missing = own-rows f _ _ _ (c .before .before .before .before .own-row .ensures) (c .before .before .own2 .given .1) in
-    let fit = fit-of _ _ _ (sym (c .before .before .before .before .before .before .before .before .before .before .before .before .before .before .before .fit .ensures [] [] [] [] [] []) ∙ not-false _ (c .before .before .before .before .before .before .before .before .before .before .before .before .before .before .if1 .left)) in
+    let fit = fit-of _ _ _ (sym (c .before .before .before .before .before .before .before .before .before .before .before .before
+    .before .before .before .fit .ensures [] [] [] [] [] []) ∙ not-false _ (c .before .before .before .before .before .before .before
+    .before .before .before .before .before .before .before .if1 .left)) in
     (omega arith, (fit .dataRows, (omega arith, (omega arith, (omega arith, missing .1)))))
 
 returns-7 : tie.Need-returns-7
 returns-7 c =
-    let a = c .before .before .before .before .before .before .before .before .before .before .before .before .before .before .before .before .before .before .before .before .before .before .args in
+    let a = c .before .before .before .before .before .before .before .before .before .before .before .before .before .before .before
+    .before .before .before .before .before .before .before .args in
     let f : Found = find (isOwn (getD (a .number .now) (a .client) 0) (a .cell)) 0 (rowsIn 24 (a .h .used) (a .rows .now)) in
-    λ s q m b w. write-stores (whole (a .h) (clientsOf (a .stage .now) (a .number .now) s q m b w)) (a .rows .now) (a .commits .now) (a .client) (a .cell)
-    (omega arith) (omega arith) (c .before .before .before .before .before .before .before .before .before .before .before .before .if5 .left) (c .before .before .before .before .before .before .before .before .before .before .if6 .left) (a .value .now) _ _ (sym (c .before .before .before .before .before .before .before .before .before .before .before .before .before .before .before .before .before .before .fit .ensures _ _ _ _ _ _) ∙ not-false _ (c .before .before .before .before .before .before .before .before .before .before .before .before .before .before .before .before .before .if1 .left)) (omega arith)
-    (sym (own-row f _ _ _ (c .before .before .before .before .before .before .before .own-row .ensures) (c .before .before .before .before .before .own .given .1))) (c .before .before .replace-row .ensures _ _ _ _ _ _ _ _)
+    λ s q m b w. write-stores (whole (a .h) (clientsOf (a .stage .now) (a .number .now) s q m b w)) (a .rows .now) (a .commits .now) (a
+    .client) (a .cell)
+    (omega arith) (omega arith) (c .before .before .before .before .before .before .before .before .before .before .before .before .if5
+    .left) (c .before .before .before .before .before .before .before .before .before .before .if6 .left) (a .value .now) _ _ (sym (c
+    .before .before .before .before .before .before .before .before .before .before .before .before .before .before .before
+    .before .before .before .fit .ensures _ _ _ _ _ _) ∙ not-false _ (c .before .before .before .before .before .before
+    .before .before .before .before .before .before .before .before .before .before .before .if1 .left)) (omega arith)
+    (sym (own-row f _ _ _ (c .before .before .before .before .before .before .before .own-row .ensures) (c .before .before .before
+    .before .before .own .given .1))) (c .before .before .replace-row .ensures _ _ _ _ _ _ _ _)
 
 returns-8 : tie.Need-returns-8
 returns-8 c =
-    let a = c .before .before .before .before .before .before .before .before .before .before .before .before .before .before .before .before .before .before .before .before .before .before .args in
+    let a = c .before .before .before .before .before .before .before .before .before .before .before .before .before .before .before
+    .before .before .before .before .before .before .before .args in
     let f : Found = find (isOwn (getD (a .number .now) (a .client) 0) (a .cell)) 0 (rowsIn 24 (a .h .used) (a .rows .now)) in
-    λ s q m b w. write-stores (whole (a .h) (clientsOf (a .stage .now) (a .number .now) s q m b w)) (a .rows .now) (a .commits .now) (a .client) (a .cell)
-    (omega arith) (omega arith) (c .before .before .before .before .before .before .before .before .before .before .before .before .if5 .left) (c .before .before .before .before .before .before .before .before .before .before .if6 .left) (a .value .now) _ _ (sym (c .before .before .before .before .before .before .before .before .before .before .before .before .before .before .before .before .before .before .fit .ensures _ _ _ _ _ _) ∙ not-false _ (c .before .before .before .before .before .before .before .before .before .before .before .before .before .before .before .before .before .if1 .left)) (omega arith)
-    (sym (own-rows f _ _ _ (c .before .before .before .before .before .before .before .own-row .ensures) (c .before .before .before .before .before .own2 .given .1) .0)) (c .before .before .add-row .ensures _ _ _ _ _ _ _)
+    λ s q m b w. write-stores (whole (a .h) (clientsOf (a .stage .now) (a .number .now) s q m b w)) (a .rows .now) (a .commits .now) (a
+    .client) (a .cell)
+    (omega arith) (omega arith) (c .before .before .before .before .before .before .before .before .before .before .before .before .if5
+    .left) (c .before .before .before .before .before .before .before .before .before .before .if6 .left) (a .value .now) _ _ (sym (c
+    .before .before .before .before .before .before .before .before .before .before .before .before .before .before .before
+    .before .before .before .fit .ensures _ _ _ _ _ _) ∙ not-false _ (c .before .before .before .before .before .before
+    .before .before .before .before .before .before .before .before .before .before .before .if1 .left)) (omega arith)
+    (sym (own-rows f _ _ _ (c .before .before .before .before .before .before .before .own-row .ensures) (c .before .before .before
+    .before .before .own2 .given .1) .0)) (c .before .before .add-row .ensures _ _ _ _ _ _ _)
 
 pub write-spec : {M : Type 1} → statement M
 write-spec =
