@@ -7,7 +7,7 @@ ghost use Rattle.spec.specs.Set.{clients};
 ghost use Rattle.spec.specs.Answers.{advanceOf};
 ghost use Rattle.spec.specs.Steps.{advance};
 ghost use Rattle.spec.specs.Bytes.{fits};
-ghost use Rattle.record.specs.Inner.{whole, columns, held, PerformsOn};
+ghost use Rattle.record.specs.Inner.{whole, columns, columnsNow, PerformsOn};
 ghost use Rattle.advances.specs.Inner.{StepDue};
 use record::AdvanceResult;
 use record::Head;
@@ -31,7 +31,7 @@ fn step(
     client: u32,
 ) -> AdvanceResult
     requires { ⌜ client < clients ⌝ }
-    requires { ⌜ fits (whole h (held stage number snapshot request commit requestWaits commitWaits))
+    requires { ⌜ fits (whole h (columnsNow stage number snapshot request commit requestWaits commitWaits))
         (length (now rows)) (length (now commits)) ≡ true ⌝ }
     ensures { λ r. ⌜ StepDue client h
         (columns stage number snapshot request commit requestWaits commitWaits) rows commits r ⌝ }

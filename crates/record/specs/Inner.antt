@@ -31,14 +31,14 @@ abbrev pub unseen : List ℕ → Lent
 unseen l = record { entry = record { ptr = (0, 0); name = 0; now = l }; exit = record { ptr = (0, 0); name = 0; now = l } }
 
 -- the columns where a contract sees them once
-abbrev pub held : RefT (List ℕ) → RefT (List ℕ) → RefT (List ℕ) → RefT (List ℕ) → RefT (List ℕ) → RefT (List ℕ) → RefT (List ℕ) → Clients
-held g n s q m r w = clientsOf (g .now) (n .now) (s .now) (q .now) (m .now) (r .now) (w .now)
+abbrev pub columnsNow : RefT (List ℕ) → RefT (List ℕ) → RefT (List ℕ) → RefT (List ℕ) → RefT (List ℕ) → RefT (List ℕ) → RefT (List ℕ) → Clients
+columnsNow g n s q m r w = clientsOf (g .now) (n .now) (s .now) (q .now) (m .now) (r .now) (w .now)
 
 -- all columns, before and after
 abbrev pub columns : Lent → Lent → Lent → Lent → Lent → Lent → Lent → Both Clients Clients
 columns g n s q m r w = record {
-  entry = held (g .entry) (n .entry) (s .entry) (q .entry) (m .entry) (r .entry) (w .entry);
-  exit = held (g .exit) (n .exit) (s .exit) (q .exit) (m .exit) (r .exit) (w .exit);
+  entry = columnsNow (g .entry) (n .entry) (s .entry) (q .entry) (m .entry) (r .entry) (w .entry);
+  exit = columnsNow (g .exit) (n .exit) (s .exit) (q .exit) (m .exit) (r .exit) (w .exit);
 }
 
 -- the memory of numbers, columns and lent buffers, before and after

@@ -3,7 +3,7 @@
 use mathlib.Core.Path.{refl}
 use Rattle.spec.specs.Session.{response}
 use Rattle.spec.specs.Bytes.{memoryOf}
-use Rattle.record.specs.Inner.{whole, held}
+use Rattle.record.specs.Inner.{whole, columnsNow}
 use Rattle.lines.proofs.FrontRows.{by-form}
 use borrow.Author.Needs.{needs}
 use Rattle.lines.proofs.answer_line.Statement.{statement}
@@ -16,7 +16,7 @@ returns c =
     .before .before .before .before .before .before .before .before .before .before .args in
     let f = c .before .before .before .before .before .before .before .before .before .before .before .before .before .before .before
     .before .before .before .before .before .form-of in
-    rw (by-form (a .line .now) (memoryOf (whole (a .h) (held (a .stage) (a .number) (a .snapshot) (a .request) (a .commit) (a
+    rw (by-form (a .line .now) (memoryOf (whole (a .h) (columnsNow (a .stage) (a .number) (a .snapshot) (a .request) (a .commit) (a
     .requestWaits) (a .commitWaits)))
     (a .rows .now) (a .commits .now)) (f .result) _ (f .ensures) (c .before .before .before .before .before .before .before .before
     .before .before .before .before .before .before .before .before .before .before .form .given .1)) (c .before .before .before
@@ -29,7 +29,7 @@ returns-2 c =
     .before .before .before .before .before .before .args in
     let f = c .before .before .before .before .before .before .before .before .before .before .before .before .before .before .before
     .before .form-of in
-    rw (by-form (a .line .now) (memoryOf (whole (a .h) (held (a .stage) (a .number) (a .snapshot) (a .request) (a .commit) (a
+    rw (by-form (a .line .now) (memoryOf (whole (a .h) (columnsNow (a .stage) (a .number) (a .snapshot) (a .request) (a .commit) (a
     .requestWaits) (a .commitWaits)))
     (a .rows .now) (a .commits .now)) (f .result) _ (f .ensures) (c .before .before .before .before .before .before .before .before
     .before .before .before .before .before .before .form2 .given .1)) (c .before .before .begin-said .ensures)
@@ -40,7 +40,7 @@ returns-3 c =
     let a = c .before .before .before .before .before .before .before .before .before .before .before .before .before .before .before
     .before .before .args in
     let f = c .before .before .before .before .before .before .before .before .before .before .before .before .form-of in
-    rw (by-form (a .line .now) (memoryOf (whole (a .h) (held (a .stage) (a .number) (a .snapshot) (a .request) (a .commit) (a
+    rw (by-form (a .line .now) (memoryOf (whole (a .h) (columnsNow (a .stage) (a .number) (a .snapshot) (a .request) (a .commit) (a
     .requestWaits) (a .commitWaits)))
     (a .rows .now) (a .commits .now)) (f .result) _ (f .ensures) (c .before .before .before .before .before .before .before .before
     .before .before .form3 .given .1)) (c .before .before .read-said .ensures _ _ _ _)
@@ -51,7 +51,7 @@ returns-4 c =
     let a = c .before .before .before .before .before .before .before .before .before .before .before .before .before .before .before
     .before .before .before .args in
     let f = c .before .before .before .before .before .before .before .before .before .before .before .before .before .form-of in
-    rw (by-form (a .line .now) (memoryOf (whole (a .h) (held (a .stage) (a .number) (a .snapshot) (a .request) (a .commit) (a
+    rw (by-form (a .line .now) (memoryOf (whole (a .h) (columnsNow (a .stage) (a .number) (a .snapshot) (a .request) (a .commit) (a
     .requestWaits) (a .commitWaits)))
     (a .rows .now) (a .commits .now)) (f .result) _ (f .ensures) (c .before .before .before .before .before .before .before .before
     .before .before .before .form4 .given .1)) (c .before .before .before .before .write-said .ensures _ _ _ _ _)
@@ -63,7 +63,7 @@ returns-5 c =
     .before .before .before .before .before .before .before .before .before .before .args in
     let f = c .before .before .before .before .before .before .before .before .before .before .before .before .before .before .before
     .before .before .before .before .before .form-of in
-    rw (by-form (a .line .now) (memoryOf (whole (a .h) (held (a .stage) (a .number) (a .snapshot) (a .request) (a .commit) (a
+    rw (by-form (a .line .now) (memoryOf (whole (a .h) (columnsNow (a .stage) (a .number) (a .snapshot) (a .request) (a .commit) (a
     .requestWaits) (a .commitWaits)))
     (a .rows .now) (a .commits .now)) (f .result) _ (f .ensures) (c .before .before .before .before .before .before .before .before
     .before .before .before .before .before .before .before .before .before .before .form5 .given .1)) (c .before .before .before
@@ -76,7 +76,7 @@ returns-6 c =
     .before .before .before .before .before .before .before .before .args in
     let f = c .before .before .before .before .before .before .before .before .before .before .before .before .before .before .before
     .before .before .before .form-of in
-    rw (by-form (a .line .now) (memoryOf (whole (a .h) (held (a .stage) (a .number) (a .snapshot) (a .request) (a .commit) (a
+    rw (by-form (a .line .now) (memoryOf (whole (a .h) (columnsNow (a .stage) (a .number) (a .snapshot) (a .request) (a .commit) (a
     .requestWaits) (a .commitWaits)))
     (a .rows .now) (a .commits .now)) (f .result) _ (f .ensures) (c .before .before .before .before .before .before .before .before
     .before .before .before .before .before .before .before .before .form6 .given .1)) (c .before .before .before .before
@@ -89,7 +89,7 @@ returns-7 c =
     .before .before .before .before .before .args in
     let f = c .before .before .before .before .before .before .before .before .before .before .before .before .before .before .before
     .form-of in
-    rw (by-form (a .line .now) (memoryOf (whole (a .h) (held (a .stage) (a .number) (a .snapshot) (a .request) (a .commit) (a
+    rw (by-form (a .line .now) (memoryOf (whole (a .h) (columnsNow (a .stage) (a .number) (a .snapshot) (a .request) (a .commit) (a
     .requestWaits) (a .commitWaits)))
     (a .rows .now) (a .commits .now)) (f .result) _ (f .ensures) (c .before .before .before .before .before .before .before .before
     .before .before .before .before .before .enum-told .given .1)) (c .before .before .before .before .before .before .trim-said
@@ -100,7 +100,7 @@ unfolding response
 returns-8 c =
     let a = c .before .before .before .before .before .before .before .before .before .before .before .before .before .before .args in
     let f = c .before .before .before .before .before .before .before .before .before .form-of in
-    rw (by-form (a .line .now) (memoryOf (whole (a .h) (held (a .stage) (a .number) (a .snapshot) (a .request) (a .commit) (a
+    rw (by-form (a .line .now) (memoryOf (whole (a .h) (columnsNow (a .stage) (a .number) (a .snapshot) (a .request) (a .commit) (a
     .requestWaits) (a .commitWaits)))
     (a .rows .now) (a .commits .now)) (f .result) _ (f .ensures) (c .before .before .before .before .before .before .before .enum-told2
     .given .1)) (c .before .before .free-said .ensures _ _ _ _ _ _)
@@ -110,7 +110,7 @@ unfolding response
 returns-9 c =
     let a = c .before .before .before .before .before .before .before .before .before .before .before .args in
     let f = c .before .before .before .before .before .before .form-of in
-    rw (by-form (a .line .now) (memoryOf (whole (a .h) (held (a .stage) (a .number) (a .snapshot) (a .request) (a .commit) (a
+    rw (by-form (a .line .now) (memoryOf (whole (a .h) (columnsNow (a .stage) (a .number) (a .snapshot) (a .request) (a .commit) (a
     .requestWaits) (a .commitWaits)))
     (a .rows .now) (a .commits .now)) (f .result) _ (f .ensures) (c .before .before .before .before .enum-told3 .given .1)) (record {
       memory = refl;

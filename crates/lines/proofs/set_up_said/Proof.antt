@@ -4,7 +4,7 @@ use mathlib.Core.Path.{refl}
 use native.Mathlib.Omega.{arith}
 use lib.ListN.{length-take}
 use Rattle.spec.specs.declared.Form.the-variants.{SetUp}
-use Rattle.record.specs.Inner.{whole, held}
+use Rattle.record.specs.Inner.{whole, columnsNow}
 use Rattle.lines.proofs.FrontRows.{too-many, set-up-spoken}
 use borrow.Author.Needs.{needs}
 use Rattle.lines.proofs.set_up_said.Statement.{statement}
@@ -14,7 +14,7 @@ returns : tie.Need-returns
 returns c =
     let a = c .before .before .before .before .before .before .before .before .args in
     let l = c .before .before .refused-line in
-    too-many (whole (a .h) (held (a .stage) (a .number) (a .snapshot) (a .request) (a .commit) (a .requestWaits) (a .commitWaits)))
+    too-many (whole (a .h) (columnsNow (a .stage) (a .number) (a .snapshot) (a .request) (a .commit) (a .requestWaits) (a .commitWaits)))
     (a .rows .now) (a .commits .now) _ _ _ _ (SetUp (a .count) (a .first) (a .limit)) (a .count) (a .first) (a .limit)
     (c .before .before .before .before .if1 .taken) (l .ensures .0) (l .ensures .1)
 
@@ -39,7 +39,7 @@ returns-2 c =
     let t = c .before .before .before .before .before .before .before .before .before .before .before .before .before .before .before
     .before .before .before .set-up in
     let l = c .before .before .before .before .before .before .before .before .before .before .before .before .free-line in
-    set-up-spoken (whole (a .h) (held (a .stage) (a .number) (a .snapshot) (a .request) (a .commit) (a .requestWaits) (a .commitWaits)))
+    set-up-spoken (whole (a .h) (columnsNow (a .stage) (a .number) (a .snapshot) (a .request) (a .commit) (a .requestWaits) (a .commitWaits)))
     (a .rows .now) (a .commits .now) _ _ _ _ (SetUp (a .count) (a .first) (a .limit)) (a .count) (a .first)
     (a .limit) (d .result) (e .result) (t .result .store) _ _ _ _ _ (t .result .answer) (c .before .before .before .before .before
     .before .before .before .before .before .before .before .before .before .before .before .before .before .before .before .before
@@ -55,7 +55,7 @@ returns-3 c =
     let e = c .before .before .before .before .before .before .before .before .before .before .before .before .before .front2 in
     let t = c .before .before .before .before .before .before .before .before .before .before .set-up in
     let l = c .before .before .before .before .free-line in
-    set-up-spoken (whole (a .h) (held (a .stage) (a .number) (a .snapshot) (a .request) (a .commit) (a .requestWaits) (a .commitWaits)))
+    set-up-spoken (whole (a .h) (columnsNow (a .stage) (a .number) (a .snapshot) (a .request) (a .commit) (a .requestWaits) (a .commitWaits)))
     (a .rows .now) (a .commits .now) _ _ _ _ (SetUp (a .count) (a .first) (a .limit)) (a .count) (a .first)
     (a .limit) (d .result) (e .result) (t .result .store) _ _ _ _ _ (t .result .answer) (c .before .before .before .before .before
     .before .before .before .before .before .before .before .before .before .before .if1 .left)

@@ -7,7 +7,7 @@ use Rattle.spec.proofs.Rows.{length-rows, filter-fewer}
 use Rattle.removal.specs.Inner.{otherTag}
 use Rattle.spec.specs.Calls.{removed}
 use Rattle.spec.specs.Bytes.{decode, storeOf}
-use Rattle.record.specs.Inner.{whole, held}
+use Rattle.record.specs.Inner.{whole, columnsNow}
 use Rattle.steps.proofs.Outcomes.{removed-store}
 use borrow.Author.Needs.{needs}
 use Rattle.steps.proofs.remove.Statement.{statement}
@@ -31,7 +31,7 @@ returns c =
     let a = c .before .before .before .before .before .before .before .before .before .before .before .before .before .before .before
     .args in
     let r = c .before .before .before .before .before .before .before .before .before .before .remove-rows in
-    let s = whole (a .h) (held (a .stage) (a .number) (a .snapshot) (a .request) (a .commit) (a .requestWaits) (a .commitWaits)) in
+    let s = whole (a .h) (columnsNow (a .stage) (a .number) (a .snapshot) (a .request) (a .commit) (a .requestWaits) (a .commitWaits)) in
     record {
       store = λ e. removed-store s (a .rows .now) e (a .client) _ _ (c .close .ensures) (r .ensures .rows);
       bytes = λ e. r .ensures .bytes;
