@@ -1,5 +1,7 @@
 -- `queues::leave_commits`: the client is cleared from all lists of the commit queue.
 -- Assumes nothing.
+use mathlib.Core.Path.{_≡_}
+use Rattle.spec.specs.Image.{cleared}
 use Rattle.spec.specs.Bytes.{decode, encode}
 use Rattle.spec.specs.Steps.{leaveCommits}
 use borrow.Author.Needs.{needs}
@@ -8,7 +10,10 @@ use Rattle.queues.proofs.leave_commits.Tie as tie
 
 returns : tie.Need-returns
 unfolding leaveCommits decode encode
-returns c = λ n s q m b d e. rw (← c .before .before .clear-all .ensures) (c .go-on .ensures _ _ _ _ _ _ d e)
+returns c =
+    let a = c .before .before .before .before .args in
+    let z : c .before .before .clear-all .result ≡ cleared (a .client) (a .commitWaits .now) = c .before .before .clear-all .ensures in
+    λ n s q m b d e. rw (← z) (c .go-on .ensures _ _ _ _ _ _ d e)
 
 pub leave-commits-spec : {M : Type 1} → statement M
 leave-commits-spec = tie.close (tie.spec (λ c κs. search needs) (λ c κs. search needs) returns)
