@@ -9,9 +9,9 @@ use lib.Seq.{getD-set-same, getD-set-other}
 use native.Mathlib.Decide.{ℕ-discrete}
 use native.Mathlib.Omega.{arith}
 use Rattle.search.specs.Inner.{Next}
-use Rattle.search.proofs.Passes.{skip}
+use Rattle.search.proofs.Passes.{carry, skip}
 use Rattle.orderly.specs.Inner.{Linked, Chain}
-use Rattle.orderly.proofs.Nexts.{next-none, next-here, next-past, carry}
+use Rattle.orderly.proofs.Nexts.{next-none, next-here, next-past}
 
 module _ (key : ℕ → ℕ) (n : ℕ) where
   pub linked-none : (nexts : List ℕ) → length nexts ≡ 1024 → Linked key n n (replicate 4096 n) nexts

@@ -3,7 +3,7 @@ pub mod Order
 pub mod Chains
 pub mod Walks
 pub mod Entries
-pub mod Rising
+pub mod TagsRise
 pub mod InOrder
 pub mod Open
 pub mod Flagged

@@ -61,8 +61,8 @@ pub record Rises (c : List ℕ) (k : ℕ) : Type 0 where
   pub tag : commitTag (rowAt commitWidth k c) < commitTag (rowAt commitWidth (k + 1) c)
 
 -- so it is of each of m committed rows and the next
-abbrev pub Rising : ℕ → List ℕ → Type 0
-Rising m c = (k : ℕ) → k + 1 < m → Rises c k
+abbrev pub TagsRise : ℕ → List ℕ → Type 0
+TagsRise m c = (k : ℕ) → k + 1 < m → Rises c k
 
 -- the committed row before row `at` has that tag
 pub record IsBelow (c : List ℕ) (at tag : ℕ) : Type 0 where

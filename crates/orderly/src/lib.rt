@@ -11,7 +11,7 @@ ghost use Rattle.places.specs.Inner.{place};
 ghost use Rattle.spec.specs.Orderly.{orderlyCommits};
 ghost use Rattle.orderly.specs.Inner.{tagPlace, entryOf, rowEntry, RowsLinked, pairPlace, Linked, Links};
 ghost use Rattle.orderly.specs.Inner.{Chain, Alike, PairWalk, OpenTest, Walk, SomeWalk, PlaceFlags};
-ghost use Rattle.orderly.specs.Inner.{TagWalk, SomeTagWalk, Rises, Rising, IsBelow};
+ghost use Rattle.orderly.specs.Inner.{TagWalk, SomeTagWalk, Rises, TagsRise, IsBelow};
 
 // ---- chains: from each place, the rows whose key has that place, in their order
 
@@ -189,7 +189,7 @@ fn rises(commits: &[u8], k: usize) -> bool
 fn both_rise(commits: &[u8], entries: usize) -> bool
     requires { ⌜ commitWidth * entries ≤ length (now commits) ⌝ }
     requires { ⌜ entries ≤ 1024 ⌝ }
-    ensures { λ r. ⌜ (r ≡ true → Rising entries (now (commits .entry))) ⌝ }
+    ensures { λ r. ⌜ (r ≡ true → TagsRise entries (now (commits .entry))) ⌝ }
 {
     let mut i = 0;
     while i + 2 < entries {
@@ -225,7 +225,7 @@ fn near(commits: &[u8], entries: usize, at: usize, tag: u32) -> usize
     requires { ⌜ commitWidth * entries ≤ length (now commits) ⌝ }
     requires { ⌜ entries ≤ 1024 ⌝ }
     requires { ⌜ at ≤ entries ⌝ }
-    requires { ⌜ Rising entries (now commits) ⌝ }
+    requires { ⌜ TagsRise entries (now commits) ⌝ }
     ensures { λ r. ⌜ (r ≤ entries → r ≡ entryOf tag (commitRowsIn entries (now (commits .entry)))) ⌝ }
 {
     if at < entries {
@@ -261,7 +261,7 @@ fn link_in_order(
     requires { ⌜ used ≤ 1024 ⌝ }
     requires { ⌜ commitWidth * entries ≤ length (now commits) ⌝ }
     requires { ⌜ entries ≤ 1024 ⌝ }
-    requires { ⌜ Rising entries (now commits) ⌝ }
+    requires { ⌜ TagsRise entries (now commits) ⌝ }
     requires { ⌜ now firsts ≡ replicate 4096 used ⌝ }
     requires { ⌜ length (now follows) ≡ 1024 ⌝ }
     ensures { λ r. ⌜ r ≤ used ⌝ }

@@ -120,10 +120,10 @@ module _ (flags : List ℕ) (w n i : ℕ) (s : List ℕ) where
   kept-end h = rw (rows-end w n i s h)
 
 -- what is kept by flags of the rows from i on
-abbrev pub Kept : List ℕ → ℕ → ℕ → List ℕ → ℕ → List Row
-Kept flags w n s = λ i. keptFrom flags i (rowsFrom w n i s)
+abbrev pub KeptRows : List ℕ → ℕ → ℕ → List ℕ → ℕ → List Row
+KeptRows flags w n s = λ i. keptFrom flags i (rowsFrom w n i s)
 
-pub kept-start : (flags : List ℕ) (w n : ℕ) (s : List ℕ) → Kept flags w n s 0 ≡ keptFrom flags 0 (rowsIn w n s)
+pub kept-start : (flags : List ℕ) (w n : ℕ) (s : List ℕ) → KeptRows flags w n s 0 ≡ keptFrom flags 0 (rowsIn w n s)
 kept-start flags w n s = rw (rows-start w n s)
 
 row-same : (w i : ℕ) (x y : List ℕ) → drop (w * i) x ≡ drop (w * i) y → part (w * i) w x ≡ rowAt w i y
@@ -149,8 +149,8 @@ pub filter-start : (p : Row → Bool) (w n : ℕ) (s : List ℕ) → filter p (r
 filter-start p w n s = rw (rows-start w n s)
 
 -- what is kept of the data rows from i on where a transaction's rows go
-abbrev pub Others : ℕ → ℕ → List ℕ → ℕ → List Row
-Others tag n s = λ i. filter (otherTag tag) (rowsFrom 24 n i s)
+abbrev pub OtherRows : ℕ → ℕ → List ℕ → ℕ → List Row
+OtherRows tag n s = λ i. filter (otherTag tag) (rowsFrom 24 n i s)
 
 -- ---- the walk: `K i` are the rows that are kept of those from row i on
 

@@ -4,5 +4,5 @@ use Prim.Native.Nat.{ℕ}
 use mathlib.Core.List.{List, [], _∷_, _++_}
 
 -- a result with what closes its line
-abbrev pub closed : List ℕ → List ℕ
-closed result = result ++ (41 ∷ 10 ∷ [])
+abbrev pub lineClosed : List ℕ → List ℕ
+lineClosed result = result ++ (41 ∷ 10 ∷ [])

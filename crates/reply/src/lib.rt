@@ -16,7 +16,7 @@ ghost use Rattle.spec.specs.Answers.{code, figureOf, beginOf, readOf, advanceOf
 ghost use Rattle.spec.specs.Text.{str, numbered, headText, lineText, answerText, freeText, droppedText, begunText};
 ghost use Rattle.spec.specs.Text.{readingText, progressText, refusedText};
 ghost use Rattle.printing.specs.Inner.{answerRoom, Put};
-ghost use Rattle.reply.specs.Inner.{closed};
+ghost use Rattle.reply.specs.Inner.{lineClosed};
 
 // Document 01's number of a refusal; 11 is unused.
 fn code_of(r: Refusal) -> u32
@@ -108,7 +108,7 @@ fn put_head(out: &mut [u8], at: usize, form: Form) -> usize
 // A number and the end.
 fn put_last(out: &mut [u8], at: usize, n: u32) -> usize
     requires { ⌜ at + 13 ≤ length (now out) ⌝ }
-    ensures { λ r. ⌜ Put (now (out .entry)) at (numbered [] n (closed (str ")"))) (now (out .exit)) r ⌝ }
+    ensures { λ r. ⌜ Put (now (out .entry)) at (numbered [] n (lineClosed (str ")"))) (now (out .exit)) r ⌝ }
     ensures { λ r. ⌜ r ≤ at + 13 ⌝ }
 {
     let a = printing::put_decimal(out, at, n);
@@ -117,7 +117,7 @@ fn put_last(out: &mut [u8], at: usize, n: u32) -> usize
 
 fn put_refused(out: &mut [u8], at: usize, number: u32) -> usize
     requires { ⌜ at + 50 ≤ length (now out) ⌝ }
-    ensures { λ r. ⌜ Put (now (out .entry)) at (closed (refusedText number)) (now (out .exit)) r ⌝ }
+    ensures { λ r. ⌜ Put (now (out .entry)) at (lineClosed (refusedText number)) (now (out .exit)) r ⌝ }
     ensures { λ r. ⌜ r ≤ at + 50 ⌝ }
 {
     let a = printing::put(out, at, b"(refused ");
@@ -126,7 +126,7 @@ fn put_refused(out: &mut [u8], at: usize, number: u32) -> usize
 
 fn put_begun(out: &mut [u8], at: usize, begun: Begun) -> usize
     requires { ⌜ at + 50 ≤ length (now out) ⌝ }
-    ensures { λ r. ⌜ Put (now (out .entry)) at (closed (begunText begun)) (now (out .exit)) r ⌝ }
+    ensures { λ r. ⌜ Put (now (out .entry)) at (lineClosed (begunText begun)) (now (out .exit)) r ⌝ }
     ensures { λ r. ⌜ r ≤ at + 50 ⌝ }
 {
     let a = printing::put(out, at, b"(number ");
@@ -139,7 +139,7 @@ fn put_begun(out: &mut [u8], at: usize, begun: Begun) -> usize
 fn put_reading(out: &mut [u8], at: usize, reading: Reading, value: &[u8]) -> usize
     requires { ⌜ at + 50 ≤ length (now out) ⌝ }
     requires { ⌜ length (now value) ≤ 16 ⌝ }
-    ensures { λ r. ⌜ Put (now (out .entry)) at (closed (readingText (now (value .entry)) reading))
+    ensures { λ r. ⌜ Put (now (out .entry)) at (lineClosed (readingText (now (value .entry)) reading))
         (now (out .exit)) r ⌝ }
     ensures { λ r. ⌜ r ≤ at + 50 ⌝ }
 {
@@ -155,7 +155,7 @@ fn put_reading(out: &mut [u8], at: usize, reading: Reading, value: &[u8]) -> usi
 
 fn put_progress(out: &mut [u8], at: usize, progress: Progress) -> usize
     requires { ⌜ at + 50 ≤ length (now out) ⌝ }
-    ensures { λ r. ⌜ Put (now (out .entry)) at (closed (progressText progress)) (now (out .exit)) r ⌝ }
+    ensures { λ r. ⌜ Put (now (out .entry)) at (lineClosed (progressText progress)) (now (out .exit)) r ⌝ }
     ensures { λ r. ⌜ r ≤ at + 50 ⌝ }
 {
     match progress {

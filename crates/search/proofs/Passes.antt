@@ -38,8 +38,8 @@ Past Hit from i = Next Hit from i i
 
 module _ {Hit : ℕ → Type 0} {from : ℕ} where
   -- no row passed yet
-  pub none : {n : ℕ} → n ≡ from → Past Hit from n
-  none e = record { start = omega arith; end = omega arith; misses = λ k l b h. omega arith; hit = λ l. absurd (omega arith) }
+  pub past-none : {n : ℕ} → n ≡ from → Past Hit from n
+  past-none e = record { start = omega arith; end = omega arith; misses = λ k l b h. omega arith; hit = λ l. absurd (omega arith) }
 
   -- no row is a hit
   pub nowhere : {n : ℕ} → from ≤ n → ((k : ℕ) → k < n → Hit k → ⊥) → Past Hit from n
@@ -47,11 +47,11 @@ module _ {Hit : ℕ → Type 0} {from : ℕ} where
 
   module _ {i : ℕ} (pass : Past Hit from i) where
     -- the same row by another name
-    pub same : {n : ℕ} → n ≡ i → Past Hit from n
-    same e = rw e pass
+    pub past-same : {n : ℕ} → n ≡ i → Past Hit from n
+    past-same e = rw e pass
 
-    pub miss : {n : ℕ} → n ≡ i + 1 → (Hit i → ⊥) → Past Hit from n
-    miss e here =
+    pub past-miss : {n : ℕ} → n ≡ i + 1 → (Hit i → ⊥) → Past Hit from n
+    past-miss e here =
         record {
           start = omega (arith, pass .start);
           end = omega arith;
@@ -60,12 +60,12 @@ module _ {Hit : ℕ → Type 0} {from : ℕ} where
         }
 
     -- a hit
-    pub found : {n : ℕ} → i < n → Hit i → Next Hit from n i
-    found l here = record { start = pass .start; end = omega arith; misses = pass .misses; hit = λ b. here }
+    pub past-found : {n : ℕ} → i < n → Hit i → Next Hit from n i
+    past-found l here = record { start = pass .start; end = omega arith; misses = pass .misses; hit = λ b. here }
 
     -- a pass over the rest
-    pub joined : {n r : ℕ} → Next Hit i n r → Next Hit from n r
-    joined {r = r} rest =
+    pub past-joined : {n r : ℕ} → Next Hit i n r → Next Hit from n r
+    past-joined {r = r} rest =
         record { start = omega (arith, pass .start, rest .start); end = rest .end; misses = λ k l b. misses k l b (decLt k i); hit = rest .hit }
       where
         misses : (k : ℕ) → from ≤ k → k < r → Dec (k < i) → Hit k → ⊥

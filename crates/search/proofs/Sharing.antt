@@ -36,14 +36,14 @@ empty j = member-above 0 0 j (omega arith) (omega arith)
 
 -- ---- client by client: the members are those of `found`, and the clients below i that p holds of
 
-abbrev pub Put : ℕ → (ℕ → Bool) → ℕ → ℕ → Type 0
-Put found p i out = (j : ℕ) → member out j ≡ (member found j || (ltb j i && p j))
+abbrev pub JoinedBelow : ℕ → (ℕ → Bool) → ℕ → ℕ → Type 0
+JoinedBelow found p i out = (j : ℕ) → member out j ≡ (member found j || (ltb j i && p j))
 
 module _ (found : ℕ) (p : ℕ → Bool) where
-  pub put-start : Put found p 0 found
-  put-start j = rw (le-ltb j 0 (omega arith), or-false)
+  pub joined-start : JoinedBelow found p 0 found
+  joined-start j = rw (le-ltb j 0 (omega arith), or-false)
 
-  pub writers-more : (out i n : ℕ) → i < clients → n ≡ i + 1 → Put found p i out → Put found p n (if p i then insert clients out i else out)
+  pub writers-more : (out i n : ℕ) → i < clients → n ≡ i + 1 → JoinedBelow found p i out → JoinedBelow found p n (if p i then insert clients out i else out)
   writers-more out i n h next all j = rw next (go (eqb j i) (p i) refl refl)
     where
       still : (j ≡ i → ⊥) → (t : Bool) → ltb j i ≡ t → ltb j (i + 1) ≡ t

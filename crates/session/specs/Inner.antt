@@ -25,8 +25,8 @@ newlineFrom i [] = i
 newlineFrom i (b ∷ s) = if eqb b 10 then i else newlineFrom (i + 1) s
 
 -- the search for a newline in s from a place on comes to another place
-abbrev pub Passed : List ℕ → ℕ → ℕ → Type 0
-Passed s from to = newlineFrom from (drop from s) ≡ newlineFrom to (drop to s)
+abbrev pub NoNewline : List ℕ → ℕ → ℕ → Type 0
+NoNewline s from to = newlineFrom from (drop from s) ≡ newlineFrom to (drop to s)
 
 -- a byte in front of the first line, if there is one
 abbrev pub push : ℕ → List (List ℕ) → List (List ℕ)

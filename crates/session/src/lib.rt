@@ -11,7 +11,7 @@ ghost use Prim.Native.Nat.{_+_, _-_, _≤_};
 ghost use lib.ListN.{length, take, drop};
 ghost use Rattle.spec.specs.Bytes.{memoryOf};
 ghost use Rattle.record.specs.Inner.{columns};
-ghost use Rattle.session.specs.Inner.{mostKept, newlineFrom, Passed, Fed, Feeds};
+ghost use Rattle.session.specs.Inner.{mostKept, newlineFrom, NoNewline, Fed, Feeds};
 
 // Of a begun line so many bytes are kept: one more than a form may have.
 const MOST_KEPT: usize = 81;
@@ -19,7 +19,7 @@ const MOST_KEPT: usize = 81;
 // Whether none of the eight bytes from a place on is a newline. All are looked at, so that they are compared at once.
 fn none_in_eight(s: &[u8], at: usize) -> bool
     requires { ⌜ at + 8 ≤ length (now s) ⌝ }
-    ensures { λ r. ⌜ (r ≡ true → Passed (now (s .entry)) at (at + 8)) ⌝ }
+    ensures { λ r. ⌜ (r ≡ true → NoNewline (now (s .entry)) at (at + 8)) ⌝ }
 {
     let mut none = true;
     for k in 0..8 {
@@ -33,7 +33,7 @@ fn none_in_eight(s: &[u8], at: usize) -> bool
 // The place that the search for a newline comes to by eights.
 fn pass_eights(s: &[u8], from: usize) -> usize
     requires { ⌜ from ≤ length (now s) ⌝ }
-    ensures { λ r. ⌜ Passed (now (s .entry)) from r ⌝ }
+    ensures { λ r. ⌜ NoNewline (now (s .entry)) from r ⌝ }
     ensures { λ r. ⌜ (from ≤ r) × (r ≤ length (now (s .entry))) ⌝ }
 {
     let mut i = from;

@@ -35,14 +35,6 @@ rows-step w n i s h =
     let e : n - i ≡ suc (n - (i + 1)) = omega arith in
     rw (e, drop-drop, add-one i, mul-suc w i)
 
--- one more row stands at the end
-pub rows-last : (w n : ℕ) (s : List ℕ) → rowsIn w (suc n) s ≡ rowsIn w n s ++ (rowAt w n s ∷ [])
-unfolding rowsIn rowAt
-rows-last w zero s = rw mul-zero
-rows-last w (suc n) s =
-    let e : w + w * n ≡ w * suc n = omega (arith, mul-suc w n) in
-    rw (← e, ← drop-drop (w * n) w s) (ap (λ (rs : List Row). take w s ∷ rs) (rows-last w n (drop w s)))
-
 -- ---- where a row stands
 
 -- row i of n lies within a list of n rows or more

@@ -7,7 +7,7 @@ use native.Mathlib.Omega.{arith}
 use Rattle.orderly.specs.Inner.{rowEntry, Linked}
 use Rattle.orderly.proofs.Chains.{linked-none}
 use Rattle.orderly.proofs.Order.{differ}
-use Rattle.orderly.proofs.Rising.{rising-order}
+use Rattle.orderly.proofs.TagsRise.{rising-order}
 use borrow.Author.Needs.{needs}
 use Rattle.orderly.proofs.link_all.Statement.{statement}
 use Rattle.orderly.proofs.link_all.Tie as tie

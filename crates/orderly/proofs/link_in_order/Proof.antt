@@ -5,7 +5,7 @@ use mathlib.Core.Logic.{⊎-elim}
 use native.Mathlib.Omega.{arith}
 use Rattle.spec.specs.Rows.{rowsIn}
 use Rattle.orderly.specs.Inner.{entryOf}
-use Rattle.orderly.proofs.Rising.{entry-is}
+use Rattle.orderly.proofs.TagsRise.{entry-is}
 use Rattle.orderly.proofs.InOrder.{Along, along-start, along-same, along-next}
 use borrow.Author.Needs.{needs}
 use Rattle.orderly.proofs.link_in_order.Statement.{statement}

@@ -4,7 +4,7 @@ use mathlib.Core.Path.{sym, _∙_}
 use mathlib.Core.Logic.{⊎-elim}
 use native.Mathlib.Omega.{arith}
 use Rattle.spec.specs.Rows.{rowAt, commitTag}
-use Rattle.orderly.proofs.Rising.{entry-is, entry-none}
+use Rattle.orderly.proofs.TagsRise.{entry-is, entry-none}
 use borrow.Author.Needs.{needs}
 use Rattle.orderly.proofs.near.Statement.{statement}
 use Rattle.orderly.proofs.near.Tie as tie

@@ -5,7 +5,7 @@ use mathlib.Core.Logic.{⊎-elim}
 use native.Mathlib.Omega.{arith}
 use Rattle.spec.specs.Rows.{rowAt, tagOf}
 use Rattle.removal.specs.Inner.{otherTag}
-use Rattle.removal.proofs.Moving.{Others, filter-none, filter-one, filter-end, filter-start}
+use Rattle.removal.proofs.Moving.{OtherRows, filter-none, filter-one, filter-end, filter-start}
 use Rattle.removal.proofs.Moving.{Moving, moving-start, moving-skip, moving-moved, moving-end}
 use Rattle.removal.proofs.Moving.{moving-row, other-no, other-yes}
 use borrow.Author.Needs.{needs}
@@ -14,7 +14,7 @@ use Rattle.removal.proofs.keep_others.Tie as tie
 
 abbrev Inv-loop : tie.InvT-loop
 Inv-loop rows₀ first used tag left₀ to₀ from₀ i₀ rows left to from i =
-    Moving (Others tag used rows₀) 24 used rows₀ rows left i × (to ≡ 24 * left) × (from ≡ 24 * i)
+    Moving (OtherRows tag used rows₀) 24 used rows₀ rows left i × (to ≡ 24 * left) × (from ≡ 24 * i)
 
 abbrev μ-loop : tie.MeasureT-loop
 μ-loop rows₀ first used tag left₀ to₀ from₀ i₀ rows left to from i = used - i
@@ -23,7 +23,7 @@ loop-holds : tie.Need-loop-holds Inv-loop μ-loop
 loop-holds c =
     let start = c .before in
     let a = start .args in (
-      moving-start (Others (a .tag) (a .used) (a .rows .now)) 24 (a .used) (a .rows .now) (start .pre .0) (a .first) (start .pre .1 .0)
+      moving-start (OtherRows (a .tag) (a .used) (a .rows .now)) 24 (a .used) (a .rows .now) (start .pre .0) (a .first) (start .pre .1 .0)
           (λ k h. filter-one (otherTag (a .tag)) 24 (a .used) k (a .rows .now) (omega arith)
           (other-yes (a .tag) (rowAt 24 k (a .rows .now)) (start .pre .1 .1 k h))),
       refl,
@@ -37,7 +37,7 @@ loop-again c =
     let loop = c .before .before .before .before .loop in
     let n = a .used in
     let s = a .rows .now in
-    let K = Others (a .tag) n s in
+    let K = OtherRows (a .tag) n s in
     let tag = c .before .tag-at in
     let same = moving-row K 24 n s (loop .rows) (loop .left) (loop .i) (loop .inv .0) in
     ⊎-elim
@@ -63,7 +63,7 @@ returns c =
     let start = c .before .before .before in
     let a = start .args in
     let loop = c .before .loop in
-    moving-end (Others (a .tag) (a .used) (a .rows .now)) 24 (a .used) (a .rows .now) (start .pre .0) _
+    moving-end (OtherRows (a .tag) (a .used) (a .rows .now)) 24 (a .used) (a .rows .now) (start .pre .0) _
     (filter-start (otherTag (a .tag)) 24 (a .used) (a .rows .now)) (loop .rows) (loop .left) (loop .i) (c .loop-test .left)
     (filter-end (otherTag (a .tag)) 24 (a .used) (loop .i) (a .rows .now) (c .loop-test .left)) (loop .inv .0)
 

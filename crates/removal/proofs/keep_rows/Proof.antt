@@ -4,7 +4,7 @@ use mathlib.Core.Path.{_≡_, refl, _∙_}
 use mathlib.Core.Logic.{⊎-elim}
 use lib.ListN.{length}
 use native.Mathlib.Omega.{arith}
-use Rattle.removal.proofs.Moving.{Kept, kept-none, kept-one, kept-end, kept-start, next-place, freed-room}
+use Rattle.removal.proofs.Moving.{KeptRows, kept-none, kept-one, kept-end, kept-start, next-place, freed-room}
 use Rattle.removal.proofs.Moving.{Moving, moving-start, moving-skip, moving-moved, moving-end, moving-room}
 use borrow.Author.Needs.{needs}
 use Rattle.removal.proofs.keep_rows.Statement.{statement}
@@ -12,7 +12,7 @@ use Rattle.removal.proofs.keep_rows.Tie as tie
 
 abbrev Inv-loop : tie.InvT-loop
 Inv-loop buf₀ words first used flags left₀ to₀ from₀ i₀ buf left to from i =
-    Moving (Kept flags (8 * words) used buf₀) (8 * words) used buf₀ buf left i × (to ≡ 8 * words * left) × (from ≡ 8 * words * i)
+    Moving (KeptRows flags (8 * words) used buf₀) (8 * words) used buf₀ buf left i × (to ≡ 8 * words * left) × (from ≡ 8 * words * i)
 
 abbrev μ-loop : tie.MeasureT-loop
 μ-loop buf₀ words first used flags left₀ to₀ from₀ i₀ buf left to from i = used - i
@@ -29,7 +29,7 @@ room c =
     let start = c .before .before .before .before in
     let a = start .args in
     let loop = c .before .before .loop in
-    moving-room (Kept (a .flags .now) (8 * a .words) (a .used) (a .buf .now)) (8 * a .words) (a .used) (a .buf .now) (loop .buf) (loop .left)
+    moving-room (KeptRows (a .flags .now) (8 * a .words) (a .used) (a .buf .now)) (8 * a .words) (a .used) (a .buf .now) (loop .buf) (loop .left)
     (loop .i) (start .pre .0) (c .before .loop-test .taken) (loop .inv .0)
 
 mul-to : tie.Need-mul-to Inv-loop μ-loop
@@ -43,7 +43,7 @@ loop-holds c =
     let start = c .before in
     let a = start .args in
     let w = 8 * a .words in (
-      moving-start (Kept (a .flags .now) w (a .used) (a .buf .now)) w (a .used) (a .buf .now) (start .pre .0) (a .first) (omega arith)
+      moving-start (KeptRows (a .flags .now) w (a .used) (a .buf .now)) w (a .used) (a .buf .now) (start .pre .0) (a .first) (omega arith)
           (λ k h. kept-one (a .flags .now) w (a .used) k (a .buf .now) (omega arith) (start .pre .1 .1 .1 k h)),
       refl,
       refl,
@@ -72,7 +72,7 @@ loop-again c =
     let loop = c .before .before .before .loop in
     let n = a .used in
     let s = a .buf .now in
-    let K = Kept (a .flags .now) w n s in
+    let K = KeptRows (a .flags .now) w n s in
     let next : loop .from + w ≡ w * (loop .i + 1) = rw (loop .inv .2) (next-place w (loop .i)) in
     ⊎-elim
     (λ v. (
@@ -95,7 +95,7 @@ returns c =
     let a = start .args in
     let w = 8 * a .words in
     let loop = c .before .loop in
-    moving-end (Kept (a .flags .now) w (a .used) (a .buf .now)) w (a .used) (a .buf .now) (start .pre .0) _
+    moving-end (KeptRows (a .flags .now) w (a .used) (a .buf .now)) w (a .used) (a .buf .now) (start .pre .0) _
     (kept-start (a .flags .now) w (a .used) (a .buf .now)) (loop .buf) (loop .left) (loop .i) (c .loop-test .left)
     (kept-end (a .flags .now) w (a .used) (loop .i) (a .buf .now) (c .loop-test .left)) (loop .inv .0)
 

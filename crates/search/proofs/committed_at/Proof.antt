@@ -3,7 +3,7 @@ use Prim.Native.Nat.{_+_, _*_, _≤_, _-_}
 use mathlib.Core.Path.{_≡_, sym, _∙_}
 use native.Mathlib.Omega.{arith}
 use Rattle.spec.specs.Rows.{rowAt, commitTag}
-use Rattle.search.proofs.Passes.{Past, none, same, miss, found}
+use Rattle.search.proofs.Passes.{Past, past-none, past-same, past-miss, past-found}
 use Rattle.search.proofs.committed_at.Statement.{statement}
 use Rattle.search.proofs.committed_at.Tie as tie
 
@@ -23,18 +23,18 @@ committed-at-spec =
     Inv-loop2 (λ commits entries tag turns t j₀ j. 16 - j)
     Inv-loop (λ commits entries tag turns t₀ t. turns - t)
     Inv-loop3 (λ commits entries tag turns i₀ i. entries - i)
-    (λ c. (omega arith, none (omega arith)))
-    (λ c. (omega arith, same (c .before .loop .inv .1) (omega arith)))
+    (λ c. (omega arith, past-none (omega arith)))
+    (λ c. (omega arith, past-same (c .before .loop .inv .1) (omega arith)))
     (λ c. omega arith) (λ c. omega arith) (λ c κs. omega arith)
-    (λ c. found (c .before .before .before .loop2 .inv .1) (omega arith) (sym (c .before .commit-tag-at .ensures) ∙ c .if1 .taken))
+    (λ c. past-found (c .before .before .before .loop2 .inv .1) (omega arith) (sym (c .before .commit-tag-at .ensures) ∙ c .if1 .taken))
     (λ c. omega arith) (λ c. omega arith)
-    (λ c. (omega arith, miss (c .before .before .before .loop2 .inv .1) (omega arith) (λ e. c .if1 .left (c .before .commit-tag-at .ensures ∙ e))))
+    (λ c. (omega arith, past-miss (c .before .before .before .loop2 .inv .1) (omega arith) (λ e. c .if1 .left (c .before .commit-tag-at .ensures ∙ e))))
     (λ c. omega arith) (λ c. omega arith)
-    (λ c. (omega arith, same (c .before .loop2 .inv .1) (omega arith)))
+    (λ c. (omega arith, past-same (c .before .loop2 .inv .1) (omega arith)))
     (λ c. omega arith)
-    (λ c. (omega arith, same (c .before .loop .inv .1) (omega arith)))
+    (λ c. (omega arith, past-same (c .before .loop .inv .1) (omega arith)))
     (λ c κs. omega arith)
-    (λ c. found (c .before .before .before .loop3 .inv .1) (omega arith) (sym (c .before .commit-tag-at2 .ensures) ∙ c .if2 .taken))
+    (λ c. past-found (c .before .before .before .loop3 .inv .1) (omega arith) (sym (c .before .commit-tag-at2 .ensures) ∙ c .if2 .taken))
     (λ c. omega arith) (λ c. omega arith)
-    (λ c. (omega arith, miss (c .before .before .before .loop3 .inv .1) (omega arith) (λ e. c .if2 .left (c .before .commit-tag-at2 .ensures ∙ e))))
-    (λ c. same (c .before .loop3 .inv .1) (omega arith)))
+    (λ c. (omega arith, past-miss (c .before .before .before .loop3 .inv .1) (omega arith) (λ e. c .if2 .left (c .before .commit-tag-at2 .ensures ∙ e))))
+    (λ c. past-same (c .before .loop3 .inv .1) (omega arith)))

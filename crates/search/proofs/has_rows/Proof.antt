@@ -9,7 +9,7 @@ use borrow.Author.Tests.{ltb-true, ltb-false}
 use Rattle.spec.specs.Rows.{rowAt, rowsIn, tagOf, hasTag}
 use Rattle.spec.specs.Share.{any}
 use Rattle.search.specs.Inner.{Next}
-use Rattle.search.proofs.Passes.{Past, none, miss, joined}
+use Rattle.search.proofs.Passes.{Past, past-none, past-miss, past-joined}
 use Rattle.search.proofs.Folds.{tag-yes, tag-no, any-at, any-none}
 use Rattle.search.proofs.has_rows.Statement.{statement}
 use Rattle.search.proofs.has_rows.Tie as tie
@@ -24,7 +24,7 @@ rest tag i n r s pass after = go (ltb r i) refl
         sym (any-at (hasTag tag) 24 n s r (omega (arith, ltb-true r i e, after .start)) (tag-yes tag (rowAt 24 r s) (pass .hit (ltb-true r i e))))
     go false e =
         let h : r ≡ i = omega (arith, ltb-false r i e, pass .end) in
-        let all = joined (rw h at pass) after in
+        let all = past-joined (rw h at pass) after in
         sym (any-none (hasTag tag) 24 n s (λ k b. tag-no tag (rowAt 24 k s) (all .misses k (omega arith) b)))
 
 abbrev Inv-loop : tie.InvT-loop
@@ -39,8 +39,8 @@ has-rows-spec =
     (tie.spec
     Inv-loop2 (λ rows used tag i j₀ j. 16 - j)
     Inv-loop (λ rows used tag i₀ i. i)
-    (λ c. (omega arith, none refl))
-    (λ c. (omega arith, joined (none (omega arith)) (c .before .loop .inv .1)))
+    (λ c. (omega arith, past-none refl))
+    (λ c. (omega arith, past-joined (past-none (omega arith)) (c .before .loop .inv .1)))
     (λ c. omega arith) (λ c. omega arith) (λ c κs. omega arith)
     (λ c.
     let a = c .before .before .before .before .before .before .before .args in
@@ -51,11 +51,11 @@ has-rows-spec =
     (λ c.
     let at = c .before .before .before .before .before .loop .i - 1 - c .before .before .before .loop2 .j in (
       omega arith,
-      joined (miss (none {n = at} (omega arith)) (omega arith) (λ e. c .if1 .left (c .before .tag-at .ensures ∙ e)))
+      past-joined (past-miss (past-none {n = at} (omega arith)) (omega arith) (λ e. c .if1 .left (c .before .tag-at .ensures ∙ e)))
           (c .before .before .before .loop2 .inv .1),
     ))
     (λ c. omega arith)
-    (λ c. (omega arith, joined (none (omega arith)) (c .before .loop2 .inv .1)))
+    (λ c. (omega arith, past-joined (past-none (omega arith)) (c .before .loop2 .inv .1)))
     (λ c κs. omega arith)
     (λ c.
     let a = c .before .before .before .before .args in

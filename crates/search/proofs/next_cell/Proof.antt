@@ -3,7 +3,7 @@ use Prim.Native.Nat.{_+_, _*_, _≤_, _-_}
 use mathlib.Core.Path.{_≡_, sym, _∙_}
 use native.Mathlib.Omega.{arith}
 use Rattle.spec.specs.Rows.{rowAt, cellOf}
-use Rattle.search.proofs.Passes.{Past, none, nowhere, same, miss, found}
+use Rattle.search.proofs.Passes.{Past, past-none, nowhere, past-same, past-miss, past-found}
 use Rattle.search.proofs.Folds.{cell-fits}
 use Rattle.search.proofs.next_cell.Statement.{statement}
 use Rattle.search.proofs.next_cell.Tie as tie
@@ -29,18 +29,18 @@ next-cell-spec =
     (λ k b e. omega (arith, cell-fits k (c .before .before .args .rows .now) (omega arith) (λ j. c .before .shared-slice-known .given j .fits))))
     (λ c. omega arith)
     (λ c. omega arith)
-    (λ c. (omega arith, none (omega arith)))
-    (λ c. (omega arith, same (c .before .loop .inv .1) (omega arith)))
+    (λ c. (omega arith, past-none (omega arith)))
+    (λ c. (omega arith, past-same (c .before .loop .inv .1) (omega arith)))
     (λ c. omega arith) (λ c. omega arith) (λ c. omega arith) (λ c κs. omega arith)
-    (λ c. found (c .before .before .before .loop2 .inv .1) (omega arith) (sym (c .before .short-cell-at .ensures) ∙ c .if2 .taken))
+    (λ c. past-found (c .before .before .before .loop2 .inv .1) (omega arith) (sym (c .before .short-cell-at .ensures) ∙ c .if2 .taken))
     (λ c. omega arith) (λ c. omega arith)
-    (λ c. (omega arith, miss (c .before .before .before .loop2 .inv .1) (omega arith) (λ e. c .if2 .left (c .before .short-cell-at .ensures ∙ e))))
+    (λ c. (omega arith, past-miss (c .before .before .before .loop2 .inv .1) (omega arith) (λ e. c .if2 .left (c .before .short-cell-at .ensures ∙ e))))
     (λ c. omega arith) (λ c. omega arith)
-    (λ c. (omega arith, same (c .before .loop2 .inv .1) (omega arith)))
+    (λ c. (omega arith, past-same (c .before .loop2 .inv .1) (omega arith)))
     (λ c. omega arith) (λ c. omega arith)
-    (λ c. (omega arith, same (c .before .loop .inv .1) (omega arith)))
+    (λ c. (omega arith, past-same (c .before .loop .inv .1) (omega arith)))
     (λ c κs. omega arith)
-    (λ c. found (c .before .before .before .loop3 .inv .1) (omega arith) (sym (c .before .short-cell-at2 .ensures) ∙ c .if3 .taken))
+    (λ c. past-found (c .before .before .before .loop3 .inv .1) (omega arith) (sym (c .before .short-cell-at2 .ensures) ∙ c .if3 .taken))
     (λ c. omega arith) (λ c. omega arith)
-    (λ c. (omega arith, miss (c .before .before .before .loop3 .inv .1) (omega arith) (λ e. c .if3 .left (c .before .short-cell-at2 .ensures ∙ e))))
-    (λ c. same (c .before .loop3 .inv .1) (omega arith)))
+    (λ c. (omega arith, past-miss (c .before .before .before .loop3 .inv .1) (omega arith) (λ e. c .if3 .left (c .before .short-cell-at2 .ensures ∙ e))))
+    (λ c. past-same (c .before .loop3 .inv .1) (omega arith)))

@@ -5,7 +5,7 @@ use mathlib.Core.Bool.{true, true≢false}
 use native.Mathlib.Omega.{arith}
 use Rattle.spec.specs.Rows.{rowAt, cellOf}
 use Rattle.search.specs.Inner.{mayHave}
-use Rattle.search.proofs.Passes.{Past, none, same, miss, found}
+use Rattle.search.proofs.Passes.{Past, past-none, past-same, past-miss, past-found}
 use Rattle.search.proofs.next_marked.Statement.{statement}
 use Rattle.search.proofs.next_marked.Tie as tie
 
@@ -28,26 +28,26 @@ next-marked-spec =
     Inv-loop (λ marks rows from used turns t₀ t. turns - t)
     Inv-loop3 (λ marks rows from used turns i₀ i. used - i)
     (λ c. omega arith)
-    (λ c. (omega arith, none (omega arith)))
-    (λ c. (omega arith, same (c .before .loop .inv .1) (omega arith)))
+    (λ c. (omega arith, past-none (omega arith)))
+    (λ c. (omega arith, past-same (c .before .loop .inv .1) (omega arith)))
     (λ c. omega arith) (λ c. omega arith) (λ c. omega arith) (λ c κs. omega arith)
-    (λ c. found (c .before .before .before .loop2 .inv .1) (omega arith) (sym (c .before .may-have .ensures) ∙ c .if1 .taken))
+    (λ c. past-found (c .before .before .before .loop2 .inv .1) (omega arith) (sym (c .before .may-have .ensures) ∙ c .if1 .taken))
     (λ c. omega arith) (λ c. omega arith)
     (λ c. (
       omega arith,
-      miss (c .before .before .before .loop2 .inv .1) (omega arith)
+      past-miss (c .before .before .before .loop2 .inv .1) (omega arith)
           (λ e. true≢false (sym (c .before .may-have .ensures ∙ e) ∙ c .if1 .left)),
     ))
     (λ c. omega arith) (λ c. omega arith)
-    (λ c. (omega arith, same (c .before .loop2 .inv .1) (omega arith)))
+    (λ c. (omega arith, past-same (c .before .loop2 .inv .1) (omega arith)))
     (λ c. omega arith) (λ c. omega arith)
-    (λ c. (omega arith, same (c .before .loop .inv .1) (omega arith)))
+    (λ c. (omega arith, past-same (c .before .loop .inv .1) (omega arith)))
     (λ c κs. omega arith)
-    (λ c. found (c .before .before .before .loop3 .inv .1) (omega arith) (sym (c .before .may-have2 .ensures) ∙ c .if2 .taken))
+    (λ c. past-found (c .before .before .before .loop3 .inv .1) (omega arith) (sym (c .before .may-have2 .ensures) ∙ c .if2 .taken))
     (λ c. omega arith) (λ c. omega arith)
     (λ c. (
       omega arith,
-      miss (c .before .before .before .loop3 .inv .1) (omega arith)
+      past-miss (c .before .before .before .loop3 .inv .1) (omega arith)
           (λ e. true≢false (sym (c .before .may-have2 .ensures ∙ e) ∙ c .if2 .left)),
     ))
-    (λ c. same (c .before .loop3 .inv .1) (omega arith)))
+    (λ c. past-same (c .before .loop3 .inv .1) (omega arith)))

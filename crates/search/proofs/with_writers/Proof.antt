@@ -8,7 +8,7 @@ use lib.Dec.{eqb}
 use lib.ListN.{getD}
 use borrow.Author.Needs.{needs}
 use Rattle.spec.specs.Set.{clients, member}
-use Rattle.search.proofs.Sharing.{Put, put-start, writers-more, writers-end}
+use Rattle.search.proofs.Sharing.{JoinedBelow, joined-start, writers-more, writers-end}
 use Rattle.search.proofs.with_writers.Statement.{statement}
 use Rattle.search.proofs.with_writers.Tie as tie
 
@@ -17,10 +17,10 @@ abbrev writes : ℕ → List ℕ → ℕ → ℕ → Bool
 writes queued numbers tag j = member queued j && eqb (getD numbers j 0) tag
 
 abbrev Inv-loop : tie.InvT-loop
-Inv-loop found queued numbers tag out₀ t₀ out t = (t ≤ clients / 8) × Put found (writes queued numbers tag) (8 * t) out
+Inv-loop found queued numbers tag out₀ t₀ out t = (t ≤ clients / 8) × JoinedBelow found (writes queued numbers tag) (8 * t) out
 
 abbrev Inv-loop2 : tie.InvT-loop2
-Inv-loop2 found queued numbers tag out₀ t j₀ out j = (j ≤ 8) × Put found (writes queued numbers tag) (8 * t + j) out
+Inv-loop2 found queued numbers tag out₀ t j₀ out j = (j ≤ 8) × JoinedBelow found (writes queued numbers tag) (8 * t + j) out
 
 abbrev μ-loop : tie.MeasureT-loop
 μ-loop found queued numbers tag out₀ t₀ out t = clients / 8 - t
@@ -29,7 +29,7 @@ abbrev μ-loop2 : tie.MeasureT-loop2
 μ-loop2 found queued numbers tag out₀ t j₀ out j = 8 - j
 
 loop-holds : tie.Need-loop-holds Inv-loop2 μ-loop2 Inv-loop μ-loop
-loop-holds c = (omega arith, put-start (c .args .found) (writes (c .args .queued) (c .args .numbers .now) (c .args .tag)))
+loop-holds c = (omega arith, joined-start (c .args .found) (writes (c .args .queued) (c .args .numbers .now) (c .args .tag)))
 
 loop2-holds : tie.Need-loop2-holds Inv-loop2 μ-loop2 Inv-loop μ-loop
 loop2-holds c =

@@ -4,13 +4,13 @@ use Prim.Native.Nat.{_-_, _≤_}
 use mathlib.Core.Path.{_∙_, sym}
 use native.Mathlib.Omega.{arith}
 use lib.ListN.{length}
-use Rattle.session.specs.Inner.{Passed}
+use Rattle.session.specs.Inner.{NoNewline}
 use Rattle.session.proofs.Chunks.{newline-end, newline-found, newline-more}
 use Rattle.session.proofs.newline.Statement.{statement}
 use Rattle.session.proofs.newline.Tie as tie
 
 abbrev Inv-loop : tie.InvT-loop
-Inv-loop s from i₀ i = (from ≤ i) × (i ≤ length s) × Passed s from i
+Inv-loop s from i₀ i = (from ≤ i) × (i ≤ length s) × NoNewline s from i
 
 abbrev μ-loop : tie.MeasureT-loop
 μ-loop s from i₀ i = length s - i

@@ -5,12 +5,12 @@ use mathlib.Core.Path.{_∙_, refl}
 use native.Mathlib.Omega.{arith}
 use borrow.Author.Tests.{not-false}
 use lib.ListN.{length}
-use Rattle.session.specs.Inner.{Passed}
+use Rattle.session.specs.Inner.{NoNewline}
 use Rattle.session.proofs.pass_eights.Statement.{statement}
 use Rattle.session.proofs.pass_eights.Tie as tie
 
 abbrev Inv-loop : tie.InvT-loop
-Inv-loop s from i₀ i = (from ≤ i) × (i ≤ length s) × Passed s from i
+Inv-loop s from i₀ i = (from ≤ i) × (i ≤ length s) × NoNewline s from i
 
 abbrev μ-loop : tie.MeasureT-loop
 μ-loop s from i₀ i = length s - i

@@ -12,12 +12,12 @@ use Rattle.spec.proofs.Rows.{rows-start}
 use Rattle.spec.specs.Share.{any}
 use Rattle.search.proofs.Folds.{to-start}
 use Rattle.spec.specs.Orderly.{under, isCommitOf, orderlyCommits}
-use Rattle.orderly.specs.Inner.{entryOf, Rising}
+use Rattle.orderly.specs.Inner.{entryOf, TagsRise}
 use Rattle.orderly.proofs.Nexts.{next-one}
 use Rattle.orderly.proofs.Order.{order-more, order-end, under-end, under-step, some-from}
 use Rattle.orderly.proofs.Entries.{entry-next}
 
-module _ (m : ℕ) (c : List ℕ) (up : Rising m c) where
+module _ (m : ℕ) (c : List ℕ) (up : TagsRise m c) where
   tag-by : (d j : ℕ) → j + suc d < m → commitTag (rowAt 8 j c) < commitTag (rowAt 8 (j + suc d) c)
   tag-by zero j h = up j h .tag
   tag-by (suc d) j h =
