@@ -22,9 +22,9 @@ from-mark true = refl
 from-mark false = refl
 
 -- a cell that by the marks the transaction cannot have written
-pub unmarked : {marks : List ℕ} {ds : List Row} {tag : ℕ} → WrittenMarks marks ds tag → (cell : ℕ) → (mayHave marks cell ≡ true → ⊥)
+pub row-unmarked : {marks : List ℕ} {ds : List Row} {tag : ℕ} → WrittenMarks marks ds tag → (cell : ℕ) → (mayHave marks cell ≡ true → ⊥)
     → wrote ds tag cell ≡ false
-unmarked {marks = marks} {ds = ds} {tag = tag} m cell n = go (ltb cell 1024) refl n
+row-unmarked {marks = marks} {ds = ds} {tag = tag} m cell n = go (ltb cell 1024) refl n
   where
     off : (t : Bool) → (t ≡ true → ⊥) → t ≡ false
     off true n = absurd (n refl)

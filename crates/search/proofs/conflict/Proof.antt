@@ -10,7 +10,7 @@ use Rattle.spec.specs.Rows.{rowAt, rowsIn, cellOf}
 use Rattle.spec.specs.Share.{conflict}
 use Rattle.spec.specs.declared.Number.the-variants.{None}
 use Rattle.search.proofs.Passes.{skip}
-use Rattle.search.proofs.Marks.{unmarked}
+use Rattle.search.proofs.Marks.{row-unmarked}
 use Rattle.search.proofs.Clashes.{conflict-none, clashRest, clash-start, clash-hit, clash-miss, clash-end}
 use Rattle.search.proofs.conflict.Statement.{statement}
 use Rattle.search.proofs.conflict.Tie as tie
@@ -33,7 +33,7 @@ loop-holds c =
     clash-start (a .tag) (a .snapshot) (a .used) (a .rows .now) cs
     ∙ skip (clashRest (a .tag) (a .snapshot) (a .used) (a .rows .now) cs None) (c .next-marked .ensures)
     (λ k l m. clash-miss (a .tag) (a .snapshot) (a .used) (a .rows .now) cs None k l
-    (unmarked (cells .cells-of .ensures) (cellOf (rowAt 24 k (a .rows .now))) m))
+    (row-unmarked (cells .cells-of .ensures) (cellOf (rowAt 24 k (a .rows .now))) m))
 
 has-written-requires : tie.Need-has-written-requires Inv-loop μ-loop
 has-written-requires c κs = (omega arith, c .before .before .before .before .before .before .cells-of .ensures)
@@ -59,7 +59,7 @@ loop-again c =
     (joined .if2 .came)
     ∙ skip (clashRest (a .tag) (a .snapshot) (a .used) (a .rows .now) cs best) (c .next-marked2 .ensures)
     (λ k l m. clash-miss (a .tag) (a .snapshot) (a .used) (a .rows .now) cs best k l
-    (unmarked (cells .cells-of .ensures) (cellOf (rowAt 24 k (a .rows .now))) m))
+    (row-unmarked (cells .cells-of .ensures) (cellOf (rowAt 24 k (a .rows .now))) m))
 
 returns-2 : tie.Need-returns-2 Inv-loop μ-loop
 returns-2 c =

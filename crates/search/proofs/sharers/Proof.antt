@@ -7,7 +7,7 @@ use borrow.Author.Needs.{needs}
 use Rattle.spec.specs.Set.{clients}
 use Rattle.spec.specs.Rows.{rowAt, cellOf}
 use Rattle.search.proofs.Passes.{carry}
-use Rattle.search.proofs.Marks.{unmarked}
+use Rattle.search.proofs.Marks.{row-unmarked}
 use Rattle.search.proofs.Sharing.{Shared, share-none, share-start, share-hit, share-miss, share-end}
 use Rattle.search.proofs.sharers.Statement.{statement}
 use Rattle.search.proofs.sharers.Tie as tie
@@ -28,7 +28,7 @@ loop-holds c =
       omega arith,
       carry (Shared (a .tag) (a .queued) (a .used) (a .rows .now) (a .numbers .now) 0) (c .next-marked .ensures)
           (λ k l m s. share-miss (a .tag) (a .queued) (a .used) (a .rows .now) (a .numbers .now) 0 k s l
-          (unmarked (cells .cells-of .ensures) (cellOf (rowAt 24 k (a .rows .now))) m))
+          (row-unmarked (cells .cells-of .ensures) (cellOf (rowAt 24 k (a .rows .now))) m))
           (share-start (a .tag) (a .queued) (a .used) (a .rows .now) (a .numbers .now)),
     )
 
@@ -61,7 +61,7 @@ loop-again c =
       next .0,
       carry (Shared (a .tag) (a .queued) (a .used) (a .rows .now) (a .numbers .now) found) (c .next-marked2 .ensures)
           (λ k l m s. share-miss (a .tag) (a .queued) (a .used) (a .rows .now) (a .numbers .now) found k s l
-          (unmarked (cells .cells-of .ensures) (cellOf (rowAt 24 k (a .rows .now))) m))
+          (row-unmarked (cells .cells-of .ensures) (cellOf (rowAt 24 k (a .rows .now))) m))
           (next .1),
     )
 
