@@ -14,7 +14,7 @@ use Rattle.spec.specs.Choice.{if_then_else_}
 use Rattle.spec.specs.Rows.{rowAt, tagOf}
 use Rattle.search.specs.Inner.{Next}
 use Rattle.orderly.specs.Inner.{Chain, PlaceFlags, Alike, OpenTest}
-use Rattle.orderly.proofs.Nexts.{carry}
+use Rattle.search.proofs.Passes.{carry}
 use Rattle.orderly.proofs.Chains.{chain-carry}
 
 -- the flag of a row

@@ -152,13 +152,13 @@ pub fn has_rows(rows: &[u8], used: usize, tag: u32) -> bool
     ensures { λ r. ⌜ r ≡ any (hasTag tag) (dataRowsIn used (now (rows .entry))) ⌝ }
 {
     let mut i = used;
-    while 16 <= i {
-        for j in 0..16 {
+    while 32 <= i {
+        for j in 0..32 {
             if rows::tag_at(rows, i - 1 - j) == tag {
                 return true;
             }
         }
-        i -= 16;
+        i -= 32;
     }
     next_tag(rows, 0, i, tag) < i
 }

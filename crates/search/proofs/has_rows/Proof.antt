@@ -1,4 +1,4 @@
--- `search::has_rows`: no row from row i on is a hit, sixteen a turn from the end; what is left is a pass over the rows before i.
+-- `search::has_rows`: no row from row i on is a hit, thirty-two a turn from the end; what is left is a pass over the rows before i.
 use Prim.Native.Nat.{ℕ, _-_, _≤_}
 use mathlib.Core.Path.{_≡_, refl, sym, _∙_}
 use mathlib.Core.Bool.{Bool, true, false}
@@ -31,13 +31,13 @@ abbrev Inv-loop : tie.InvT-loop
 Inv-loop rows used tag i₀ i = (i ≤ used) × Past (λ k. tagOf (rowAt 24 k rows) ≡ tag) i used
 
 abbrev Inv-loop2 : tie.InvT-loop2
-Inv-loop2 rows used tag i j₀ j = (j ≤ 16) × Past (λ k. tagOf (rowAt 24 k rows) ≡ tag) (i - j) used
+Inv-loop2 rows used tag i j₀ j = (j ≤ 32) × Past (λ k. tagOf (rowAt 24 k rows) ≡ tag) (i - j) used
 
 pub has-rows-spec : {M : Type 1} → statement M
 has-rows-spec =
     tie.close
     (tie.spec
-    Inv-loop2 (λ rows used tag i j₀ j. 16 - j)
+    Inv-loop2 (λ rows used tag i j₀ j. 32 - j)
     Inv-loop (λ rows used tag i₀ i. i)
     (λ c. (omega arith, past-none refl))
     (λ c. (omega arith, past-joined (past-none (omega arith)) (c .before .loop .inv .1)))
