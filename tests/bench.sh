@@ -1,12 +1,12 @@
 #!/usr/bin/env bash
-# Instructions for each call of the step program against the hand-written one, and the times of the step program, the hand-written one and
-# the model on the generator's profiles in one run, as ratios. All with the tickets in force that tests/tickets lists.
+# Instructions for each call of the step program against the hand-written one, more than a bad line takes and in all, and the times of the step
+# program, the hand-written one and the model on the generator's profiles in one run, as ratios. All with the tickets in force that tests/tickets lists.
 set -eu
 cd "$(dirname "$0")/.."
 here=$PWD/bench
 set -- --tickets "$(cat tests/tickets)"
 . bench/tickets.sh # sets `tickets`, and `dir`, where its programs are built
-bench/stepcost.sh --tickets "$tickets" target/bin/step
+bench/stepcost.sh --tickets "$tickets" --absolute target/bin/step
 
 cargo build --quiet --release --offline --manifest-path tests/model/Cargo.toml
 model=tests/model/target/release
