@@ -52,8 +52,8 @@ fn step(
         ),
         1 => queues::take_request(h, stage, request, client),
         2 => queues::note_request(h, stage, client),
-        3 => queues::list_requests(h, stage, number, requestWaits, rows, client),
-        4 => queues::look_requests(h, stage, request, requestWaits, client),
+        3 => lists::list_requests(h, stage, number, requestWaits, rows, client),
+        4 => lists::look_requests(h, stage, request, requestWaits, client),
         5 => steps::check(
             h,
             stage,
@@ -70,8 +70,8 @@ fn step(
         6 => queues::enter_commits(h, stage, client),
         7 => queues::take_commit(h, stage, commit, client),
         8 => queues::note_commit(h, stage, client),
-        9 => queues::list_commits(h, stage, commitWaits, client),
-        10 => queues::look_commits(h, stage, commit, commitWaits, client),
+        9 => lists::list_commits(h, stage, commitWaits, client),
+        10 => lists::look_commits(h, stage, commit, commitWaits, client),
         11 => steps::add_commit(h, stage, number, commit, commits, client),
         12 => queues::leave_commits(h, stage, commitWaits, client),
         13 => queues::leave_requests(

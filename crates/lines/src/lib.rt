@@ -69,7 +69,7 @@ fn set_up_said(
     }
     let d = front(DATA_ROW * count as usize, rows.len());
     let c = front(COMMIT_ROW * count as usize, commits.len());
-    let turn = store::set_up(&mut rows[..d], &mut commits[..c], first, limit);
+    let turn = starts::set_up(&mut rows[..d], &mut commits[..c], first, limit);
     let answer = turn.answer;
     let used = reply::free_line(out, at, form, answer);
     match answer {

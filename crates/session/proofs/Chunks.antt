@@ -1,4 +1,4 @@
--- The lines of an input. The search for a newline goes byte by byte; the first line ends at the first newline, and the other lines are those of
+-- The lines of an input. The first line ends at the first newline, and the other lines are those of
 -- what stands behind it; so an answer to that line, and the answers to the lines behind it, are the answers to all.
 -- Assumes nothing.
 use Prim.Native.Nat.{ℕ, suc, _+_, _-_, _≤_, _<_}
@@ -6,32 +6,16 @@ use mathlib.Core.Path.{_≡_, refl, sym, ap, _∙_}
 use mathlib.Core.Bool.{Bool, true, false}
 use mathlib.Core.Logic.{_⊎_, inl, inr, ⊎-elim}
 use mathlib.Core.List.{List, [], _∷_, _++_, append-assoc}
-use native.Mathlib.Numerals.{add-one}
 use native.Mathlib.Omega.{arith}
-use borrow.Author.Tests.{eq-eqb, ne-eqb}
-use lib.ListN.{length, getD, take, drop, length-drop, drop-of-length-le}
-use lib.Seq.{drop-cons, drop-drop}
+use lib.ListN.{length, take, drop, length-drop}
+use lib.Seq.{drop-drop}
 use lib.Dec.{eqb}
 use Rattle.spec.specs.Session.{answerTo, answers, memoryAfter}
 use Rattle.spec.specs.declared.Store.{Store}
 use Rattle.spec.specs.Bytes.{Memory, memoryOf}
-use Rattle.session.specs.Inner.{newlineFrom, push, linesOf, unlessLines, restOf, Fed}
+use Rattle.scanning.specs.Inner.{newlineFrom}
+use Rattle.session.specs.Inner.{push, linesOf, unlessLines, restOf, Fed}
 use Rattle.lines.specs.Inner.{Spoken}
-
--- ---- one turn of the search for a newline
-
-module _ (s : List ℕ) (i : ℕ) where
-  pub newline-end : length s ≤ i → newlineFrom i (drop i s) ≡ i
-  unfolding newlineFrom
-  newline-end h = rw (drop-of-length-le s h)
-
-  pub newline-found : i < length s → getD s i 0 ≡ 10 → newlineFrom i (drop i s) ≡ i
-  unfolding newlineFrom
-  newline-found h e = rw (drop-cons s i 0 h, eq-eqb (getD s i 0) 10 e)
-
-  pub newline-more : i < length s → (getD s i 0 ≡ 10 → ⊥) → newlineFrom i (drop i s) ≡ newlineFrom (i + 1) (drop (i + 1) s)
-  unfolding newlineFrom
-  newline-more h n = rw (drop-cons s i 0 h, ne-eqb (getD s i 0) 10 n, add-one i)
 
 -- ---- the lines, one clause each
 

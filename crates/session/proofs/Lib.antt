@@ -1,4 +1,3 @@
 pub mod Chunks
 pub mod Input
-pub mod MovedBytes
 pub mod Reaching

@@ -13,20 +13,12 @@ use Rattle.spec.specs.Bytes.{Memory}
 use denote.Triple.Both.{Both}
 use Rattle.spec.specs.Image.{Clients}
 use Rattle.printing.specs.Inner.{answerRoom}
+use Rattle.scanning.specs.Inner.{newlineFrom, mostKept}
 use Rattle.record.specs.declared.Head.{Head}
 use Rattle.record.specs.Inner.{Lent, memoryFound, memoryLeft}
 use Rattle.session.specs.declared.FeedResult.{FeedResult}
 
 -- ---- The lines of an input that end in a newline, and what stands behind the last of them.
-
--- the place of the first newline of s, whose first byte is at i, or the place behind s
-unfoldable pub newlineFrom : ℕ → List ℕ → ℕ
-newlineFrom i [] = i
-newlineFrom i (b ∷ s) = if eqb b 10 then i else newlineFrom (i + 1) s
-
--- the search for a newline in s from a place on comes to another place
-abbrev pub NoNewline : List ℕ → ℕ → ℕ → Type 0
-NoNewline s from to = newlineFrom from (drop from s) ≡ newlineFrom to (drop to s)
 
 -- a byte in front of the first line, if there is one
 abbrev pub push : ℕ → List (List ℕ) → List (List ℕ)
@@ -83,10 +75,6 @@ joined (c ∷ cs) = c ++ joined cs
 abbrev pub unfinished : List ℕ → List (List ℕ)
 unfinished [] = []
 unfinished (b ∷ l) = (b ∷ l) ∷ []
-
--- of a begun line so many bytes are kept: one more than a form may have, so that a line that is too long stays too long
-abbrev pub mostKept : ℕ
-mostKept = 81
 
 -- the answers to the whole lines of a chunk behind what was kept; of the line that it leaves begun, 81 bytes at most are kept
 unfoldable pub inChunks : Memory → List ℕ → List (List ℕ) → List ℕ

@@ -8,9 +8,11 @@ use mathlib.Core.List.{List}
 use native.Mathlib.Omega.{arith}
 use lib.ListN.{length, drop}
 use Rattle.spec.specs.Bytes.{Memory}
-use Rattle.session.specs.Inner.{newlineFrom, linesOf, restOf, Fed, Emptied}
+use Rattle.scanning.specs.Inner.{newlineFrom}
+use Rattle.session.specs.Inner.{linesOf, restOf, Fed, Emptied}
 use Rattle.spec.specs.Session.{memoryAfter}
-use Rattle.session.proofs.Chunks.{newline-end, no-line-left, after-nil}
+use Rattle.scanning.proofs.Newlines.{newline-end}
+use Rattle.session.proofs.Chunks.{no-line-left, after-nil}
 
 -- where a write failed, nothing is promised of one that is fine
 pub failed : {A : Type 0} → false ≡ true → A

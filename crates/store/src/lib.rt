@@ -1,44 +1,22 @@
 // The eight calls of the store, open to other programs: the record goes in and comes back by value, the buffers are
 // lent. None asks anything of its caller. What each leaves and answers is defined in the crate spec: `onBytes` a
 // call on a record and two buffers. The calls themselves are on a record apart, in crates of their own: here the
-// record comes apart and together.
+// record comes apart and together. Set-up is passed on.
 ghost use mathlib.Core.Path.{_≡_};
 ghost use Rattle.spec.specs.Answers.{figureOf, beginOf, readOf, advanceOf};
 ghost use Rattle.spec.specs.Calls.{abandon, begin, free, read, trim, write};
 ghost use Rattle.spec.specs.Steps.{advance};
-ghost use Rattle.spec.specs.Bytes.{memoryOf, Performs, SetsUp, onBytes};
+ghost use Rattle.spec.specs.Bytes.{memoryOf, Performs, onBytes};
 ghost use Rattle.spec.specs.Values.{valueFrom};
 pub use reads::value;
 use spec::AdvanceTurn;
 use spec::BeginTurn;
-use spec::DATA_ROW;
-use spec::FigureAnswer;
 use spec::FigureTurn;
 use spec::ReadAnswer;
 use spec::ReadTurn;
 use spec::Reading;
-use spec::Refusal;
 use spec::Store;
-
-// Set-up answers the free figure, which is the number of rows.
-pub fn set_up(rows: &mut [u8], commits: &mut [u8], first: u32, limit: u32) -> FigureTurn
-    ensures { λ r. ⌜ SetsUp (now (rows .entry)) (now (commits .entry)) first limit
-        (memoryOf (r .store) (now (rows .exit)) (now (commits .exit))) (figureOf (r .answer)) ⌝ }
-{
-    if !given::acceptable(rows.len(), commits.len(), first, limit) {
-        return FigureTurn {
-            store: record::fresh(0, 0, 0),
-            answer: FigureAnswer::Refused(Refusal::BadSetUp),
-        };
-    }
-    let n = (rows.len() / DATA_ROW) as u32;
-    rows::clear(rows);
-    rows::clear(commits);
-    FigureTurn {
-        store: record::fresh(n, given::given_limit(limit), first - 1),
-        answer: FigureAnswer::Answered(n),
-    }
-}
+pub use starts::set_up;
 
 // Begin answers the transaction's number and its snapshot.
 pub fn begin(store: Store, rows: &[u8], commits: &[u8], client: u32) -> BeginTurn

@@ -11,7 +11,8 @@ use Rattle.spec.specs.Session.{answers, memoryAfter}
 use Rattle.spec.specs.Bytes.{Memory, memoryOf}
 use Rattle.record.specs.Inner.{whole}
 use Rattle.session.specs.Inner.{linesOf, restOf}
-use Rattle.session.proofs.Chunks.{newline-end, rest-at, text-more, state-more}
+use Rattle.scanning.proofs.Newlines.{newline-end}
+use Rattle.session.proofs.Chunks.{rest-at, text-more, state-more}
 use borrow.Author.Needs.{needs}
 use Rattle.session.proofs.feed.Statement.{statement}
 use Rattle.session.proofs.feed.Tie as tie

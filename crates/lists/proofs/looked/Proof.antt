@@ -1,4 +1,4 @@
--- `queues::looked`: the next stage where the list is empty, else its size.
+-- `lists::looked`: the next stage where the list is empty, else its size.
 -- Assumes nothing.
 use native.Mathlib.Omega.{arith}
 use borrow.Author.Tests.{eq-eqb, ne-eqb}
@@ -6,8 +6,8 @@ use Rattle.spec.specs.Bytes.{decode}
 use Rattle.spec.specs.Steps.{looked}
 use Rattle.spec.proofs.Ends.{image-stays}
 use borrow.Author.Needs.{needs}
-use Rattle.queues.proofs.looked.Statement.{statement}
-use Rattle.queues.proofs.looked.Tie as tie
+use Rattle.lists.proofs.looked.Statement.{statement}
+use Rattle.lists.proofs.looked.Tie as tie
 
 returns : tie.Need-returns
 unfolding looked

@@ -5,10 +5,10 @@ use mathlib.Core.Path.{_≡_, _∙_}
 use mathlib.Core.Bool.{true}
 use mathlib.Core.Logic.{⊎-elim}
 use native.Mathlib.Omega.{arith}
-use Rattle.session.specs.Inner.{NoNewline}
-use Rattle.session.proofs.Chunks.{newline-more}
-use Rattle.session.proofs.none_in_eight.Statement.{statement}
-use Rattle.session.proofs.none_in_eight.Tie as tie
+use Rattle.scanning.specs.Inner.{NoNewline}
+use Rattle.scanning.proofs.Newlines.{newline-more}
+use Rattle.scanning.proofs.none_in_eight.Statement.{statement}
+use Rattle.scanning.proofs.none_in_eight.Tie as tie
 
 abbrev Inv-loop : tie.InvT-loop
 Inv-loop s at none₀ k₀ none k = (k ≤ 8) × (none ≡ true → NoNewline s at (at + k))

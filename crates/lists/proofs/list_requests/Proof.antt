@@ -1,10 +1,10 @@
--- `queues::list_requests`: the list is that of the queued clients who share a cell.
+-- `lists::list_requests`: the list is that of the queued clients who share a cell.
 -- Assumes nothing.
 use Rattle.spec.specs.Bytes.{decode, encode}
 use Rattle.spec.specs.Steps.{listRequests, others}
 use borrow.Author.Needs.{needs}
-use Rattle.queues.proofs.list_requests.Statement.{statement}
-use Rattle.queues.proofs.list_requests.Tie as tie
+use Rattle.lists.proofs.list_requests.Statement.{statement}
+use Rattle.lists.proofs.list_requests.Tie as tie
 
 returns : tie.Need-returns
 unfolding listRequests others decode encode

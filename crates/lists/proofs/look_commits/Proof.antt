@@ -1,10 +1,10 @@
--- `queues::look_commits`: the list that the look leaves decides.
+-- `lists::look_commits`: the list that the look leaves decides.
 -- Assumes nothing.
 use Rattle.spec.specs.Bytes.{decode, encode}
 use Rattle.spec.specs.Steps.{lookCommits}
 use borrow.Author.Needs.{needs}
-use Rattle.queues.proofs.look_commits.Statement.{statement}
-use Rattle.queues.proofs.look_commits.Tie as tie
+use Rattle.lists.proofs.look_commits.Statement.{statement}
+use Rattle.lists.proofs.look_commits.Tie as tie
 
 returns : tie.Need-returns
 unfolding lookCommits decode encode

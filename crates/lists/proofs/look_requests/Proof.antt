@@ -1,10 +1,10 @@
--- `queues::look_requests`: the list that the look leaves decides.
+-- `lists::look_requests`: the list that the look leaves decides.
 -- Assumes nothing.
 use Rattle.spec.specs.Bytes.{decode, encode}
 use Rattle.spec.specs.Steps.{lookRequests}
 use borrow.Author.Needs.{needs}
-use Rattle.queues.proofs.look_requests.Statement.{statement}
-use Rattle.queues.proofs.look_requests.Tie as tie
+use Rattle.lists.proofs.look_requests.Statement.{statement}
+use Rattle.lists.proofs.look_requests.Tie as tie
 
 returns : tie.Need-returns
 unfolding lookRequests decode encode

@@ -5,9 +5,9 @@ use mathlib.Core.Path.{_≡_, refl}
 use native.Mathlib.Omega.{arith}
 use borrow.Author.Needs.{needs}
 use lib.ListN.{length, take, drop, length-set}
-use Rattle.session.proofs.MovedBytes.{move-more, move-rest, move-full, move-all}
-use Rattle.session.proofs.keep.Statement.{statement}
-use Rattle.session.proofs.keep.Tie as tie
+use Rattle.scanning.proofs.MovedBytes.{move-more, move-rest, move-full, move-all}
+use Rattle.scanning.proofs.keep.Statement.{statement}
+use Rattle.scanning.proofs.keep.Tie as tie
 
 abbrev Inv-loop : tie.InvT-loop
 Inv-loop buf₀ from end i₀ o₀ buf i o =

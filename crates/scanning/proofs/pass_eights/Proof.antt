@@ -5,9 +5,9 @@ use mathlib.Core.Path.{_∙_, refl}
 use native.Mathlib.Omega.{arith}
 use borrow.Author.Tests.{not-false}
 use lib.ListN.{length}
-use Rattle.session.specs.Inner.{NoNewline}
-use Rattle.session.proofs.pass_eights.Statement.{statement}
-use Rattle.session.proofs.pass_eights.Tie as tie
+use Rattle.scanning.specs.Inner.{NoNewline}
+use Rattle.scanning.proofs.pass_eights.Statement.{statement}
+use Rattle.scanning.proofs.pass_eights.Tie as tie
 
 abbrev Inv-loop : tie.InvT-loop
 Inv-loop s from i₀ i = (from ≤ i) × (i ≤ length s) × NoNewline s from i

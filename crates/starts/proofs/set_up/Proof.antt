@@ -1,4 +1,4 @@
--- `store::set_up`: the empty record and cleared buffers, or the refusal.
+-- `starts::set_up`: the empty record and cleared buffers, or the refusal.
 -- Assumes nothing.
 use mathlib.Core.Path.{sym, _∙_}
 use native.Mathlib.Omega.{arith}
@@ -6,8 +6,8 @@ use borrow.Author.Needs.{needs}
 use borrow.Author.Tests.{not-true, not-false}
 use Rattle.spec.specs.Bytes.{setUp}
 use Rattle.spec.proofs.Ends.{accepted}
-use Rattle.store.proofs.set_up.Statement.{statement}
-use Rattle.store.proofs.set_up.Tie as tie
+use Rattle.starts.proofs.set_up.Statement.{statement}
+use Rattle.starts.proofs.set_up.Tie as tie
 
 acceptable-requires : tie.Need-acceptable-requires
 acceptable-requires c κs = search needs

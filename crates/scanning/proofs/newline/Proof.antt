@@ -4,10 +4,10 @@ use Prim.Native.Nat.{_-_, _≤_}
 use mathlib.Core.Path.{_∙_, sym}
 use native.Mathlib.Omega.{arith}
 use lib.ListN.{length}
-use Rattle.session.specs.Inner.{NoNewline}
-use Rattle.session.proofs.Chunks.{newline-end, newline-found, newline-more}
-use Rattle.session.proofs.newline.Statement.{statement}
-use Rattle.session.proofs.newline.Tie as tie
+use Rattle.scanning.specs.Inner.{NoNewline}
+use Rattle.scanning.proofs.Newlines.{newline-end, newline-found, newline-more}
+use Rattle.scanning.proofs.newline.Statement.{statement}
+use Rattle.scanning.proofs.newline.Tie as tie
 
 abbrev Inv-loop : tie.InvT-loop
 Inv-loop s from i₀ i = (from ≤ i) × (i ≤ length s) × NoNewline s from i

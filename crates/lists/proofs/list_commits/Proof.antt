@@ -1,10 +1,10 @@
--- `queues::list_commits`: the list is that of all others in the queue.
+-- `lists::list_commits`: the list is that of all others in the queue.
 -- Assumes nothing.
 use Rattle.spec.specs.Bytes.{decode, encode}
 use Rattle.spec.specs.Steps.{listCommits, others}
 use borrow.Author.Needs.{needs}
-use Rattle.queues.proofs.list_commits.Statement.{statement}
-use Rattle.queues.proofs.list_commits.Tie as tie
+use Rattle.lists.proofs.list_commits.Statement.{statement}
+use Rattle.lists.proofs.list_commits.Tie as tie
 
 returns : tie.Need-returns
 unfolding listCommits others decode encode

@@ -1,0 +1,2 @@
+pub mod MovedBytes
+pub mod Newlines
