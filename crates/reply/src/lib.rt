@@ -18,25 +18,6 @@ ghost use Rattle.spec.specs.Text.{readingText, progressText, refusedText};
 ghost use Rattle.printing.specs.Inner.{answerRoom, Put};
 ghost use Rattle.reply.specs.Inner.{lineClosed};
 
-// Document 01's number of a refusal; 11 is unused.
-fn code_of(r: Refusal) -> u32
-    ensures { λ n. ⌜ n ≡ code r ⌝ }
-{
-    match r {
-        Refusal::BadSetUp => 1,
-        Refusal::Unfit => 2,
-        Refusal::NoClient => 3,
-        Refusal::NoCell => 4,
-        Refusal::AlreadyOpen => 5,
-        Refusal::NotOpen => 6,
-        Refusal::WrongStage => 7,
-        Refusal::NumbersUsedUp => 8,
-        Refusal::CellLimit => 9,
-        Refusal::NoFreeRow => 10,
-        Refusal::WrongLength => 12,
-    }
-}
-
 // ---- the head of a line: as in crate printing, each function appends to the text that ends at a place, and answers
 // where the text ends now. A word is written where it is printed: its length is then known there.
 
@@ -201,7 +182,7 @@ pub fn free_line(out: &mut [u8], at: usize, form: Form, answer: FigureAnswer) ->
             let b = printing::put(out, a, b"(free ");
             put_last(out, b, n)
         }
-        FigureAnswer::Refused(r) => put_refused(out, a, code_of(r)),
+        FigureAnswer::Refused(r) => put_refused(out, a, telling::code_of(r)),
     }
 }
 
@@ -217,7 +198,7 @@ pub fn dropped_line(out: &mut [u8], at: usize, form: Form, answer: FigureAnswer)
             let b = printing::put(out, a, b"(dropped ");
             put_last(out, b, n)
         }
-        FigureAnswer::Refused(r) => put_refused(out, a, code_of(r)),
+        FigureAnswer::Refused(r) => put_refused(out, a, telling::code_of(r)),
     }
 }
 
@@ -230,7 +211,7 @@ pub fn begun_line(out: &mut [u8], at: usize, form: Form, answer: BeginAnswer) ->
     let a = put_head(out, at, form);
     match answer {
         BeginAnswer::Answered(begun) => put_begun(out, a, begun),
-        BeginAnswer::Refused(r) => put_refused(out, a, code_of(r)),
+        BeginAnswer::Refused(r) => put_refused(out, a, telling::code_of(r)),
     }
 }
 
@@ -250,7 +231,7 @@ pub fn reading_line(
     let a = put_head(out, at, form);
     match answer {
         ReadAnswer::Answered(reading) => put_reading(out, a, reading, value),
-        ReadAnswer::Refused(r) => put_refused(out, a, code_of(r)),
+        ReadAnswer::Refused(r) => put_refused(out, a, telling::code_of(r)),
     }
 }
 
@@ -263,6 +244,6 @@ pub fn progress_line(out: &mut [u8], at: usize, form: Form, answer: AdvanceAnswe
     let a = put_head(out, at, form);
     match answer {
         AdvanceAnswer::Answered(progress) => put_progress(out, a, progress),
-        AdvanceAnswer::Refused(r) => put_refused(out, a, code_of(r)),
+        AdvanceAnswer::Refused(r) => put_refused(out, a, telling::code_of(r)),
     }
 }

@@ -14,6 +14,7 @@ pub mod AccordSetUp
 pub mod AccordSteps
 pub mod AccordTable
 pub mod AccordText
+pub mod AccordTold
 pub mod AccordUnfit
 pub mod Bytes
 pub mod Laid

@@ -7,6 +7,7 @@ pub mod Text
 pub mod Session
 pub mod Run
 pub mod Table
+pub mod Told
 pub mod Right
 pub mod Choice
 pub mod Look

@@ -1,0 +1,318 @@
+// The eight calls for programs in C, in libwellcherry.a; c/wellcherry.h declares them. The record stays where the caller
+// holds it: its arrays by client are lent, a column each, its eight numbers go in and come back by value. A buffer is
+// a pointer and a length. None asks anything of its caller. What each leaves and tells is defined in the crate spec:
+// specs/Told.antt.
+ghost use mathlib.Core.List.{List};
+ghost use Prim.Native.Nat.{ℕ};
+ghost use Rattle.spec.specs.Calls.{abandon, begin, free, read, trim, write};
+ghost use Rattle.spec.specs.Steps.{advance};
+ghost use Rattle.spec.specs.Told.{toldOf, figureTold, beginTold, readTold, advanceTold};
+ghost use Rattle.record.specs.Inner.{columns, unseen};
+ghost use Rattle.wellcherry.specs.Inner.{TellsOn, TellsNew};
+use record::Head;
+use spec::CLIENTS;
+use spec::Set;
+
+// What a call hands back: the record's numbers, where it may change them; the refusal's number, or 0; and what the
+// call gives, zeros where it is refused.
+#[repr(C)]
+pub struct FigureGiven {
+    pub head: Head,
+    pub refusal: u32,
+    pub figure: u32,
+}
+
+#[repr(C)]
+pub struct BeginGiven {
+    pub head: Head,
+    pub refusal: u32,
+    pub number: u32,
+    pub snapshot: u32,
+}
+
+// 1 and the data row in which the value stands, or 0 for an unwritten cell.
+#[repr(C)]
+pub struct ReadGiven {
+    pub refusal: u32,
+    pub found: u32,
+    pub row: usize,
+}
+
+// 1 Stage, 2 Waiting, 3 Conflict, 4 Done, and its number.
+#[repr(C)]
+pub struct AdvanceGiven {
+    pub head: Head,
+    pub refusal: u32,
+    pub progress: u32,
+    pub number: u32,
+}
+
+#[repr(C)]
+pub struct FreeGiven {
+    pub refusal: u32,
+    pub figure: u32,
+}
+
+// Set-up: a new record in the place of whatever the columns hold.
+#[no_mangle]
+pub extern "C" fn wellcherry_call_set_up(
+    stage: &mut [u32; CLIENTS],
+    number: &mut [u32; CLIENTS],
+    snapshot: &mut [u32; CLIENTS],
+    request: &mut [u32; CLIENTS],
+    commit: &mut [u32; CLIENTS],
+    requestWaits: &mut [Set; CLIENTS],
+    commitWaits: &mut [Set; CLIENTS],
+    rows: &mut [u8],
+    commits: &mut [u8],
+    first: u32,
+    limit: u32,
+) -> FigureGiven
+    ensures { λ r. ⌜ TellsNew (now (rows .entry)) (now (commits .entry)) first limit
+        (columns stage number snapshot request commit requestWaits commitWaits) rows commits
+        (r .head) (toldOf (r .refusal) (r .figure) 0) ⌝ }
+{
+    let turn = starts::set_up(rows, commits, first, limit);
+    let head = record::spread(
+        turn.store,
+        stage,
+        number,
+        snapshot,
+        request,
+        commit,
+        requestWaits,
+        commitWaits,
+    );
+    let answer = turn.answer;
+    let told = telling::figure_told(answer);
+    FigureGiven {
+        head,
+        refusal: told.refusal,
+        figure: told.figure,
+    }
+}
+
+// Begin: the transaction's number and its snapshot.
+#[no_mangle]
+pub extern "C" fn wellcherry_call_begin(
+    h: Head,
+    stage: &mut [u32; CLIENTS],
+    number: &mut [u32; CLIENTS],
+    snapshot: &mut [u32; CLIENTS],
+    request: &mut [u32; CLIENTS],
+    commit: &mut [u32; CLIENTS],
+    requestWaits: &mut [Set; CLIENTS],
+    commitWaits: &mut [Set; CLIENTS],
+    rows: &[u8],
+    commits: &[u8],
+    client: u32,
+) -> BeginGiven
+    ensures { λ r. ⌜ TellsOn beginTold (begin client) h
+        (columns stage number snapshot request commit requestWaits commitWaits) rows commits
+        (r .head) (toldOf (r .refusal) (r .number) (r .snapshot)) ⌝ }
+{
+    let done = begins::begin(
+        h,
+        stage,
+        number,
+        snapshot,
+        request,
+        commit,
+        requestWaits,
+        commitWaits,
+        rows,
+        commits,
+        client,
+    );
+    let head = done.head;
+    let answer = done.answer;
+    let told = telling::begin_told(answer);
+    BeginGiven {
+        head,
+        refusal: told.refusal,
+        number: told.first,
+        snapshot: told.second,
+    }
+}
+
+// Read: where the value stands. It is lent what it looks at, and changes nothing.
+#[no_mangle]
+pub extern "C" fn wellcherry_call_read(
+    h: Head,
+    stage: &[u32; CLIENTS],
+    number: &[u32; CLIENTS],
+    snapshot: &[u32; CLIENTS],
+    rows: &[u8],
+    commits: &[u8],
+    client: u32,
+    cell: u32,
+) -> ReadGiven
+    ensures { λ r. ⌜ ((q m b w : List ℕ) → TellsOn readTold (read client cell) h
+        (columns stage number snapshot (unseen q) (unseen m) (unseen b) (unseen w)) rows commits
+        h (toldOf (r .refusal) (r .found) (r .row))) ⌝ }
+{
+    let answer = reads::read(h, stage, number, snapshot, rows, commits, client, cell);
+    let told = telling::read_told(answer);
+    ReadGiven {
+        refusal: told.refusal,
+        found: told.found,
+        row: told.row,
+    }
+}
+
+// Write: the free figure.
+#[no_mangle]
+pub extern "C" fn wellcherry_call_write(
+    h: Head,
+    stage: &[u32; CLIENTS],
+    number: &[u32; CLIENTS],
+    rows: &mut [u8],
+    commits: &[u8],
+    client: u32,
+    cell: u32,
+    value: &[u8],
+) -> FigureGiven
+    ensures { λ r. ⌜ ((s q m b w : List ℕ) → TellsOn figureTold (write client cell (now (value .entry))) h
+        (columns stage number (unseen s) (unseen q) (unseen m) (unseen b) (unseen w)) rows commits
+        (r .head) (toldOf (r .refusal) (r .figure) 0)) ⌝ }
+{
+    let done = writes::write(h, stage, number, rows, commits, client, cell, value);
+    let head = done.head;
+    let answer = done.answer;
+    let told = telling::figure_told(answer);
+    FigureGiven {
+        head,
+        refusal: told.refusal,
+        figure: told.figure,
+    }
+}
+
+// Advance: one step of the transaction's commit.
+#[no_mangle]
+pub extern "C" fn wellcherry_call_advance(
+    h: Head,
+    stage: &mut [u32; CLIENTS],
+    number: &mut [u32; CLIENTS],
+    snapshot: &mut [u32; CLIENTS],
+    request: &mut [u32; CLIENTS],
+    commit: &mut [u32; CLIENTS],
+    requestWaits: &mut [Set; CLIENTS],
+    commitWaits: &mut [Set; CLIENTS],
+    rows: &mut [u8],
+    commits: &mut [u8],
+    client: u32,
+) -> AdvanceGiven
+    ensures { λ r. ⌜ TellsOn advanceTold (advance client) h
+        (columns stage number snapshot request commit requestWaits commitWaits) rows commits
+        (r .head) (toldOf (r .refusal) (r .progress) (r .number)) ⌝ }
+{
+    let done = advances::advance(
+        h,
+        stage,
+        number,
+        snapshot,
+        request,
+        commit,
+        requestWaits,
+        commitWaits,
+        rows,
+        commits,
+        client,
+    );
+    let head = done.head;
+    let answer = done.answer;
+    let told = telling::advance_told(answer);
+    AdvanceGiven {
+        head,
+        refusal: told.refusal,
+        progress: told.first,
+        number: told.second,
+    }
+}
+
+// Abandon: the free figure.
+#[no_mangle]
+pub extern "C" fn wellcherry_call_abandon(
+    h: Head,
+    stage: &mut [u32; CLIENTS],
+    number: &mut [u32; CLIENTS],
+    snapshot: &mut [u32; CLIENTS],
+    request: &mut [u32; CLIENTS],
+    commit: &mut [u32; CLIENTS],
+    requestWaits: &mut [Set; CLIENTS],
+    commitWaits: &mut [Set; CLIENTS],
+    rows: &mut [u8],
+    commits: &[u8],
+    client: u32,
+) -> FigureGiven
+    ensures { λ r. ⌜ TellsOn figureTold (abandon client) h
+        (columns stage number snapshot request commit requestWaits commitWaits) rows commits
+        (r .head) (toldOf (r .refusal) (r .figure) 0) ⌝ }
+{
+    let done = abandons::abandon(
+        h,
+        stage,
+        number,
+        snapshot,
+        request,
+        commit,
+        requestWaits,
+        commitWaits,
+        rows,
+        commits,
+        client,
+    );
+    let head = done.head;
+    let answer = done.answer;
+    let told = telling::figure_told(answer);
+    FigureGiven {
+        head,
+        refusal: told.refusal,
+        figure: told.figure,
+    }
+}
+
+// Trim: how many data rows went.
+#[no_mangle]
+pub extern "C" fn wellcherry_call_trim(
+    h: Head,
+    stage: &[u32; CLIENTS],
+    number: &[u32; CLIENTS],
+    snapshot: &[u32; CLIENTS],
+    rows: &mut [u8],
+    commits: &mut [u8],
+) -> FigureGiven
+    ensures { λ r. ⌜ ((q m b w : List ℕ) → TellsOn figureTold trim h
+        (columns stage number snapshot (unseen q) (unseen m) (unseen b) (unseen w)) rows commits
+        (r .head) (toldOf (r .refusal) (r .figure) 0)) ⌝ }
+{
+    let done = trims::trim(h, stage, number, snapshot, rows, commits);
+    let head = done.head;
+    let answer = done.answer;
+    let told = telling::figure_told(answer);
+    FigureGiven {
+        head,
+        refusal: told.refusal,
+        figure: told.figure,
+    }
+}
+
+// Free: the free figure. It changes nothing.
+#[no_mangle]
+pub extern "C" fn wellcherry_call_free(
+    h: Head,
+    stage: &[u32; CLIENTS],
+    rows: &[u8],
+    commits: &[u8],
+) -> FreeGiven
+    ensures { λ r. ⌜ ((n s q m b w : List ℕ) → TellsOn figureTold free h
+        (columns stage (unseen n) (unseen s) (unseen q) (unseen m) (unseen b) (unseen w)) rows commits
+        h (toldOf (r .refusal) (r .figure) 0)) ⌝ }
+{
+    let answer = reads::free(h, stage, rows, commits);
+    let told = telling::figure_told(answer);
+    FreeGiven {
+        refusal: told.refusal,
+        figure: told.figure,
+    }
+}

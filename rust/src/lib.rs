@@ -1,0 +1,241 @@
+//! The house store for Rust programs: the calls of libwellcherry.a on a record and two
+//! buffers that the caller holds. Answers are the papers': a refusal is its number. What
+//! each call does stands in c/wellcherry.h.
+#![warn(missing_docs)]
+
+pub mod raw;
+
+pub use raw::{Numbers, Record, CLIENTS};
+
+/// Bytes of a data row, of a committed row and of a value; where in a data row the value stands.
+pub const DATA_ROW: usize = 24;
+/// Bytes of a committed row.
+pub const COMMITTED_ROW: usize = 8;
+/// Bytes of a value.
+pub const VALUE: usize = 16;
+/// Where in its data row a value stands.
+pub const VALUE_AT: usize = 8;
+
+/// What an Advance comes to.
+#[derive(Clone, Copy, Debug, PartialEq, Eq)]
+pub enum Progress {
+    /// One step on: the new stage.
+    Stage(u32),
+    /// No step yet: how many transactions are still waited for.
+    Waiting(u32),
+    /// Closed, its writes gone: the smallest conflicting commit number.
+    Conflict(u32),
+    /// Finished: its commit number, or its snapshot's where it wrote nothing.
+    Done(u32),
+}
+
+/// What a call gives, or the number of its refusal.
+pub type Answer<A> = Result<A, u32>;
+
+fn answered<A>(refusal: u32, given: A) -> Answer<A> {
+    if refusal == 0 {
+        Ok(given)
+    } else {
+        Err(refusal)
+    }
+}
+
+impl Record {
+    /// A record of zeros: before a set-up, every call on it is refused with 2.
+    pub const NONE: Record = Record {
+        numbers: Numbers {
+            rows: 0,
+            limit: 0,
+            issued: 0,
+            requested: 0,
+            taken: 0,
+            last: 0,
+            used: 0,
+            entries: 0,
+        },
+        stage: [0; CLIENTS],
+        number: [0; CLIENTS],
+        snapshot: [0; CLIENTS],
+        request: [0; CLIENTS],
+        commit: [0; CLIENTS],
+        request_waits: [0; CLIENTS],
+        commit_waits: [0; CLIENTS],
+    };
+
+    /// Set-up: a new record in this one's place, both buffers zeroed. Gives the free figure.
+    pub fn set_up(&mut self, data: &mut [u8], committed: &mut [u8], first: u32, limit: u32) -> Answer<u32> {
+        let given = unsafe {
+            raw::wellcherry_call_set_up(
+                self.stage.as_mut_ptr(),
+                self.number.as_mut_ptr(),
+                self.snapshot.as_mut_ptr(),
+                self.request.as_mut_ptr(),
+                self.commit.as_mut_ptr(),
+                self.request_waits.as_mut_ptr(),
+                self.commit_waits.as_mut_ptr(),
+                data.as_mut_ptr(),
+                data.len(),
+                committed.as_mut_ptr(),
+                committed.len(),
+                first,
+                limit,
+            )
+        };
+        self.numbers = given.numbers;
+        answered(given.refusal, given.figure)
+    }
+
+    /// Begin: the transaction's number and its snapshot.
+    pub fn begin(&mut self, data: &[u8], committed: &[u8], client: u32) -> Answer<(u32, u32)> {
+        let given = unsafe {
+            raw::wellcherry_call_begin(
+                self.numbers,
+                self.stage.as_mut_ptr(),
+                self.number.as_mut_ptr(),
+                self.snapshot.as_mut_ptr(),
+                self.request.as_mut_ptr(),
+                self.commit.as_mut_ptr(),
+                self.request_waits.as_mut_ptr(),
+                self.commit_waits.as_mut_ptr(),
+                data.as_ptr(),
+                data.len(),
+                committed.as_ptr(),
+                committed.len(),
+                client,
+            )
+        };
+        self.numbers = given.numbers;
+        answered(given.refusal, (given.number, given.snapshot))
+    }
+
+    /// Read: in which data row the value stands; none for an unwritten cell.
+    pub fn read_row(&self, data: &[u8], committed: &[u8], client: u32, cell: u32) -> Answer<Option<usize>> {
+        let given = unsafe {
+            raw::wellcherry_call_read(
+                self.numbers,
+                self.stage.as_ptr(),
+                self.number.as_ptr(),
+                self.snapshot.as_ptr(),
+                data.as_ptr(),
+                data.len(),
+                committed.as_ptr(),
+                committed.len(),
+                client,
+                cell,
+            )
+        };
+        answered(given.refusal, (given.found == 1).then_some(given.row))
+    }
+
+    /// Read: the sixteen bytes as they stand in the data buffer.
+    pub fn read<'a>(&self, data: &'a [u8], committed: &[u8], client: u32, cell: u32) -> Answer<Option<&'a [u8]>> {
+        let row = self.read_row(data, committed, client, cell)?;
+        Ok(row.map(|row| &data[row * DATA_ROW + VALUE_AT..][..VALUE]))
+    }
+
+    /// Write: gives the free figure. The value has sixteen bytes.
+    pub fn write(&mut self, data: &mut [u8], committed: &[u8], client: u32, cell: u32, value: &[u8]) -> Answer<u32> {
+        let given = unsafe {
+            raw::wellcherry_call_write(
+                self.numbers,
+                self.stage.as_ptr(),
+                self.number.as_ptr(),
+                data.as_mut_ptr(),
+                data.len(),
+                committed.as_ptr(),
+                committed.len(),
+                client,
+                cell,
+                value.as_ptr(),
+                value.len(),
+            )
+        };
+        self.numbers = given.numbers;
+        answered(given.refusal, given.figure)
+    }
+
+    /// Advance: the one step that the client's stage calls for.
+    pub fn advance(&mut self, data: &mut [u8], committed: &mut [u8], client: u32) -> Answer<Progress> {
+        let given = unsafe {
+            raw::wellcherry_call_advance(
+                self.numbers,
+                self.stage.as_mut_ptr(),
+                self.number.as_mut_ptr(),
+                self.snapshot.as_mut_ptr(),
+                self.request.as_mut_ptr(),
+                self.commit.as_mut_ptr(),
+                self.request_waits.as_mut_ptr(),
+                self.commit_waits.as_mut_ptr(),
+                data.as_mut_ptr(),
+                data.len(),
+                committed.as_mut_ptr(),
+                committed.len(),
+                client,
+            )
+        };
+        self.numbers = given.numbers;
+        let progress = match given.progress {
+            1 => Progress::Stage(given.number),
+            2 => Progress::Waiting(given.number),
+            3 => Progress::Conflict(given.number),
+            _ => Progress::Done(given.number),
+        };
+        answered(given.refusal, progress)
+    }
+
+    /// Abandon: gives the free figure.
+    pub fn abandon(&mut self, data: &mut [u8], committed: &[u8], client: u32) -> Answer<u32> {
+        let given = unsafe {
+            raw::wellcherry_call_abandon(
+                self.numbers,
+                self.stage.as_mut_ptr(),
+                self.number.as_mut_ptr(),
+                self.snapshot.as_mut_ptr(),
+                self.request.as_mut_ptr(),
+                self.commit.as_mut_ptr(),
+                self.request_waits.as_mut_ptr(),
+                self.commit_waits.as_mut_ptr(),
+                data.as_mut_ptr(),
+                data.len(),
+                committed.as_ptr(),
+                committed.len(),
+                client,
+            )
+        };
+        self.numbers = given.numbers;
+        answered(given.refusal, given.figure)
+    }
+
+    /// Trim: gives how many data rows went.
+    pub fn trim(&mut self, data: &mut [u8], committed: &mut [u8]) -> Answer<u32> {
+        let given = unsafe {
+            raw::wellcherry_call_trim(
+                self.numbers,
+                self.stage.as_ptr(),
+                self.number.as_ptr(),
+                self.snapshot.as_ptr(),
+                data.as_mut_ptr(),
+                data.len(),
+                committed.as_mut_ptr(),
+                committed.len(),
+            )
+        };
+        self.numbers = given.numbers;
+        answered(given.refusal, given.figure)
+    }
+
+    /// Free: gives the free figure.
+    pub fn free(&self, data: &[u8], committed: &[u8]) -> Answer<u32> {
+        let given = unsafe {
+            raw::wellcherry_call_free(
+                self.numbers,
+                self.stage.as_ptr(),
+                data.as_ptr(),
+                data.len(),
+                committed.as_ptr(),
+                committed.len(),
+            )
+        };
+        answered(given.refusal, given.figure)
+    }
+}
