@@ -7,7 +7,7 @@ pub mod raw;
 
 pub use raw::{Numbers, Record, CLIENTS};
 
-/// Bytes of a data row, of a committed row and of a value; where in a data row the value stands.
+/// Bytes of a data row.
 pub const DATA_ROW: usize = 24;
 /// Bytes of a committed row.
 pub const COMMITTED_ROW: usize = 8;
@@ -40,6 +40,25 @@ fn answered<A>(refusal: u32, given: A) -> Answer<A> {
     }
 }
 
+/// A call that is lent all columns of the record: what comes before them, and after.
+macro_rules! on_columns {
+    ($call:ident, $record:expr, [$($before:expr),*], $($after:expr),*) => {
+        unsafe {
+            raw::$call(
+                $($before,)*
+                $record.stage.as_mut_ptr(),
+                $record.number.as_mut_ptr(),
+                $record.snapshot.as_mut_ptr(),
+                $record.request.as_mut_ptr(),
+                $record.commit.as_mut_ptr(),
+                $record.request_waits.as_mut_ptr(),
+                $record.commit_waits.as_mut_ptr(),
+                $($after),*
+            )
+        }
+    };
+}
+
 impl Record {
     /// A record of zeros: before a set-up, every call on it is refused with 2.
     pub const NONE: Record = Record {
@@ -63,53 +82,52 @@ impl Record {
     };
 
     /// Set-up: a new record in this one's place, both buffers zeroed. Gives the free figure.
-    pub fn set_up(&mut self, data: &mut [u8], committed: &mut [u8], first: u32, limit: u32) -> Answer<u32> {
-        let given = unsafe {
-            raw::wellcherry_call_set_up(
-                self.stage.as_mut_ptr(),
-                self.number.as_mut_ptr(),
-                self.snapshot.as_mut_ptr(),
-                self.request.as_mut_ptr(),
-                self.commit.as_mut_ptr(),
-                self.request_waits.as_mut_ptr(),
-                self.commit_waits.as_mut_ptr(),
-                data.as_mut_ptr(),
-                data.len(),
-                committed.as_mut_ptr(),
-                committed.len(),
-                first,
-                limit,
-            )
-        };
+    pub fn set_up(
+        &mut self,
+        data: &mut [u8],
+        committed: &mut [u8],
+        first: u32,
+        limit: u32,
+    ) -> Answer<u32> {
+        let given = on_columns!(
+            wellcherry_call_set_up,
+            self,
+            [],
+            data.as_mut_ptr(),
+            data.len(),
+            committed.as_mut_ptr(),
+            committed.len(),
+            first,
+            limit
+        );
         self.numbers = given.numbers;
         answered(given.refusal, given.figure)
     }
 
     /// Begin: the transaction's number and its snapshot.
     pub fn begin(&mut self, data: &[u8], committed: &[u8], client: u32) -> Answer<(u32, u32)> {
-        let given = unsafe {
-            raw::wellcherry_call_begin(
-                self.numbers,
-                self.stage.as_mut_ptr(),
-                self.number.as_mut_ptr(),
-                self.snapshot.as_mut_ptr(),
-                self.request.as_mut_ptr(),
-                self.commit.as_mut_ptr(),
-                self.request_waits.as_mut_ptr(),
-                self.commit_waits.as_mut_ptr(),
-                data.as_ptr(),
-                data.len(),
-                committed.as_ptr(),
-                committed.len(),
-                client,
-            )
-        };
+        let given = on_columns!(
+            wellcherry_call_begin,
+            self,
+            [self.numbers],
+            data.as_ptr(),
+            data.len(),
+            committed.as_ptr(),
+            committed.len(),
+            client
+        );
         self.numbers = given.numbers;
         answered(given.refusal, (given.number, given.snapshot))
     }
 
     /// Read: in which data row the value stands; none for an unwritten cell.
-    pub fn read_row(&self, data: &[u8], committed: &[u8], client: u32, cell: u32) -> Answer<Option<usize>> {
+    pub fn read_row(
+        &self,
+        data: &[u8],
+        committed: &[u8],
+        client: u32,
+        cell: u32,
+    ) -> Answer<Option<usize>> {
         let given = unsafe {
             raw::wellcherry_call_read(
                 self.numbers,
@@ -128,13 +146,26 @@ impl Record {
     }
 
     /// Read: the sixteen bytes as they stand in the data buffer.
-    pub fn read<'a>(&self, data: &'a [u8], committed: &[u8], client: u32, cell: u32) -> Answer<Option<&'a [u8]>> {
+    pub fn read<'a>(
+        &self,
+        data: &'a [u8],
+        committed: &[u8],
+        client: u32,
+        cell: u32,
+    ) -> Answer<Option<&'a [u8]>> {
         let row = self.read_row(data, committed, client, cell)?;
         Ok(row.map(|row| &data[row * DATA_ROW + VALUE_AT..][..VALUE]))
     }
 
     /// Write: gives the free figure. The value has sixteen bytes.
-    pub fn write(&mut self, data: &mut [u8], committed: &[u8], client: u32, cell: u32, value: &[u8]) -> Answer<u32> {
+    pub fn write(
+        &mut self,
+        data: &mut [u8],
+        committed: &[u8],
+        client: u32,
+        cell: u32,
+        value: &[u8],
+    ) -> Answer<u32> {
         let given = unsafe {
             raw::wellcherry_call_write(
                 self.numbers,
@@ -155,24 +186,22 @@ impl Record {
     }
 
     /// Advance: the one step that the client's stage calls for.
-    pub fn advance(&mut self, data: &mut [u8], committed: &mut [u8], client: u32) -> Answer<Progress> {
-        let given = unsafe {
-            raw::wellcherry_call_advance(
-                self.numbers,
-                self.stage.as_mut_ptr(),
-                self.number.as_mut_ptr(),
-                self.snapshot.as_mut_ptr(),
-                self.request.as_mut_ptr(),
-                self.commit.as_mut_ptr(),
-                self.request_waits.as_mut_ptr(),
-                self.commit_waits.as_mut_ptr(),
-                data.as_mut_ptr(),
-                data.len(),
-                committed.as_mut_ptr(),
-                committed.len(),
-                client,
-            )
-        };
+    pub fn advance(
+        &mut self,
+        data: &mut [u8],
+        committed: &mut [u8],
+        client: u32,
+    ) -> Answer<Progress> {
+        let given = on_columns!(
+            wellcherry_call_advance,
+            self,
+            [self.numbers],
+            data.as_mut_ptr(),
+            data.len(),
+            committed.as_mut_ptr(),
+            committed.len(),
+            client
+        );
         self.numbers = given.numbers;
         let progress = match given.progress {
             1 => Progress::Stage(given.number),
@@ -185,23 +214,16 @@ impl Record {
 
     /// Abandon: gives the free figure.
     pub fn abandon(&mut self, data: &mut [u8], committed: &[u8], client: u32) -> Answer<u32> {
-        let given = unsafe {
-            raw::wellcherry_call_abandon(
-                self.numbers,
-                self.stage.as_mut_ptr(),
-                self.number.as_mut_ptr(),
-                self.snapshot.as_mut_ptr(),
-                self.request.as_mut_ptr(),
-                self.commit.as_mut_ptr(),
-                self.request_waits.as_mut_ptr(),
-                self.commit_waits.as_mut_ptr(),
-                data.as_mut_ptr(),
-                data.len(),
-                committed.as_ptr(),
-                committed.len(),
-                client,
-            )
-        };
+        let given = on_columns!(
+            wellcherry_call_abandon,
+            self,
+            [self.numbers],
+            data.as_mut_ptr(),
+            data.len(),
+            committed.as_ptr(),
+            committed.len(),
+            client
+        );
         self.numbers = given.numbers;
         answered(given.refusal, given.figure)
     }

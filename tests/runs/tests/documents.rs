@@ -78,7 +78,7 @@ fn every_edit_has_its_sentence() {
 fn declared(source: &str) -> BTreeSet<&str> {
     let mut names = BTreeSet::new();
     for line in source.lines() {
-        let line = line.trim_start_matches("pub ");
+        let line = line.trim_start_matches("pub ").trim_start_matches("extern \"C\" ");
         let item = ["fn ", "struct ", "enum ", "const ", "type "].iter().find_map(|kind| line.strip_prefix(kind));
         let passed_on = line.strip_prefix("use ").and_then(|path| path.rsplit("::").next());
         names.extend(item.or(passed_on).and_then(|rest| rest.split(|c: char| !(c.is_alphanumeric() || c == '_')).next()));
