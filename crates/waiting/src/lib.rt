@@ -57,13 +57,14 @@ pub fn look(
     ensures { λ r. ⌜ r ≡ strike
         (λ j. struck queue own (getD (now (stage .entry)) j 0) (getD (now (number .entry)) j 0)) list clients ⌝ }
 {
-    if list == 0 {
-        return 0;
-    }
     let mut out = list;
-    for i in 0..CLIENTS {
-        if strikes(queue, own, stage[i], number[i]) {
-            out = sets::without(out, i as u32);
+    let mut rest = list;
+    while rest != 0 {
+        let i = u64::trailing_zeros(rest);
+        rest = sets::without(rest, i);
+        let k = i as usize;
+        if strikes(queue, own, stage[k], number[k]) {
+            out = sets::without(out, i);
         }
     }
     out

@@ -1,72 +1,63 @@
--- `waiting::look`: an empty list stays empty; else the list so far is struck of the clients passed.
+-- `waiting::look`: the clients of the list are looked at from the lowest on; what is left of the list is known client by client.
 -- Assumes nothing.
-use mathlib.Core.Path.{_≡_, refl, sym, ap, _∙_}
-use mathlib.Core.Logic.{⊎-elim}
-use Prim.Native.Nat.{ℕ, _≤_, _-_}
+use mathlib.Core.Path.{sym, _∙_}
 use native.Mathlib.Omega.{arith}
-use native.Mathlib.Numerals.{add-one}
 use borrow.Author.Needs.{needs}
 use lib.ListN.{getD}
-use Rattle.spec.specs.Set.{clients, remove, strike}
+use lib.Count.{trailingZeros}
+use Rattle.spec.specs.Set.{clients}
 use Rattle.spec.specs.Steps.{struck}
-use Rattle.waiting.proofs.Loops.{strike-none}
+use Rattle.waiting.proofs.Looking.{Found, lowest, remove-lt, Looked, looked-none, looked-struck, looked-stays, looked-all}
 use Rattle.waiting.proofs.look.Statement.{statement}
 use Rattle.waiting.proofs.look.Tie as tie
 
 abbrev Inv-loop : tie.InvT-loop
-Inv-loop queue own stage number list out₀ i₀ out i = (i ≤ clients) × (out ≡ strike (λ j. struck queue own (getD stage j 0) (getD number j 0)) list i)
+Inv-loop queue own stage number list out₀ rest₀ out rest = Looked (λ j. struck queue own (getD stage j 0) (getD number j 0)) list out rest
 
 abbrev μ-loop : tie.MeasureT-loop
-μ-loop queue own stage number list out₀ i₀ out i = clients - i
+μ-loop queue own stage number list out₀ rest₀ out rest = rest
 
-returns : tie.Need-returns Inv-loop μ-loop
-returns c = let e : c .before .args .list ≡ 0 = omega arith in rw e (sym (strike-none _ clients))
+-- the client looked at is below the width, and one of the rest
+found : (c : tie.In-loop Inv-loop μ-loop) → let rest = c .before .loop .rest in Found clients rest (trailingZeros clients rest)
+found c = lowest clients (c .before .loop .rest) (c .loop-test .taken) (c .before .loop .inv .rest-fits)
 
 loop-holds : tie.Need-loop-holds Inv-loop μ-loop
-unfolding strike
-loop-holds c = (search needs, refl)
+loop-holds c = looked-none _ (c .args .list) (omega arith)
+
+cast-k : tie.Need-cast-k Inv-loop μ-loop
+cast-k c = let h = found (c .before) .below in search needs
 
 mul-strikes : tie.Need-mul-strikes Inv-loop μ-loop
-mul-strikes c = search needs
+mul-strikes c = let h = found (c .before) .below in search needs
 
 element-copy-out-strikes : tie.Need-element-copy-out-strikes Inv-loop μ-loop
-element-copy-out-strikes c = search needs
+element-copy-out-strikes c = found (c .before) .below
 
 mul-strikes-2 : tie.Need-mul-strikes-2 Inv-loop μ-loop
-mul-strikes-2 c = search needs
+mul-strikes-2 c = let h = found (c .before .before) .below in search needs
 
 element-copy-out-strikes-2 : tie.Need-element-copy-out-strikes-2 Inv-loop μ-loop
-element-copy-out-strikes-2 c = search needs
-
-strikes-requires : tie.Need-strikes-requires Inv-loop μ-loop
-strikes-requires c κs = search needs
-
-cast-without : tie.Need-cast-without Inv-loop μ-loop
-cast-without c = search needs
-
-without-requires : tie.Need-without-requires Inv-loop μ-loop
-without-requires c κs = search needs
-
-add-i : tie.Need-add-i Inv-loop μ-loop
-add-i c = search needs
+element-copy-out-strikes-2 c = found (c .before .before) .below
 
 loop-less : tie.Need-loop-less Inv-loop μ-loop
-loop-less c = search needs
+loop-less c = let taken = c .before .before .before .before .before in omega (arith, remove-lt _ _ (found (taken .before) .inside), taken .without .ensures)
 
 loop-again : tie.Need-loop-again Inv-loop μ-loop
-unfolding strike
 loop-again c =
-    let loop = c .before .before .before .before .before .loop in (
-      search needs,
-      rw (add-one (loop .i), sym (c .before .strikes .ensures))
-          (⊎-elim
-          (λ w. rw (w .0 .taken) (w .2 ∙ w .1 .ensures ∙ ap (λ (x : ℕ). remove x (loop .i)) (loop .inv .1)))
-          (λ w. rw (w .0 .left) (w .1 ∙ loop .inv .1))
-          (c .if2 .came)),
-    )
+    let taken = c .before .before .before .before .before in
+    looked-struck _ _ _ _ _ (taken .before .before .loop .inv) _ (taken .without .ensures)
+    _ (c .without2 .ensures) (sym (c .before .before .strikes .ensures) ∙ c .before .if1 .taken)
 
-returns-2 : tie.Need-returns-2 Inv-loop μ-loop
-returns-2 c = let e : c .before .loop .i ≡ clients = omega arith in rw e at (c .before .loop .inv .1)
+loop-less-2 : tie.Need-loop-less-2 Inv-loop μ-loop
+loop-less-2 c = let taken = c .before .before .before .before in omega (arith, remove-lt _ _ (found (taken .before) .inside), taken .without .ensures)
+
+loop-again-2 : tie.Need-loop-again-2 Inv-loop μ-loop
+loop-again-2 c =
+    let taken = c .before .before .before .before in
+    looked-stays _ _ _ _ _ (taken .before .before .loop .inv) _ (taken .without .ensures) (sym (c .before .strikes .ensures) ∙ c .if1 .left)
+
+returns : tie.Need-returns Inv-loop μ-loop
+returns c = looked-all _ _ _ _ (omega arith) (c .before .loop .inv) (c .loop-test .left)
 
 pub look-spec : {M : Type 1} → statement M
 look-spec =
@@ -74,16 +65,17 @@ look-spec =
     (tie.spec
     Inv-loop
     μ-loop
-    returns
     loop-holds
+    (λ c κs. search needs)
+    cast-k
     mul-strikes
     element-copy-out-strikes
     mul-strikes-2
     element-copy-out-strikes-2
-    strikes-requires
-    cast-without
-    without-requires
-    add-i
+    (λ c κs. search needs)
+    (λ c κs. search needs)
     loop-less
     loop-again
-    returns-2)
+    loop-less-2
+    loop-again-2
+    returns)
