@@ -1,4 +1,5 @@
 -- Laws of a look, which goes over a list's members from the lowest on: the lowest member, the rest without it, and the list so far.
+-- Assumes nothing.
 use mathlib.Core.Bool.{Bool, true, false, not, _&&_, false≢true}
 use mathlib.Core.Path.{_≡_, refl, sym, ap, _∙_}
 use Prim.Native.Nat.{ℕ, zero, suc, _/_, _%_, _^_, _≤_, _<_}
