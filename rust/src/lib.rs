@@ -43,6 +43,7 @@ fn answered<A>(refusal: u32, given: A) -> Answer<A> {
 /// A call that is lent all columns of the record: what comes before them, and after.
 macro_rules! on_columns {
     ($call:ident, $record:expr, [$($before:expr),*], $($after:expr),*) => {
+        // SAFETY: each pointer is to memory of the length that the call takes, lent for the call alone.
         unsafe {
             raw::$call(
                 $($before,)*
@@ -203,13 +204,14 @@ impl Record {
             client
         );
         self.numbers = given.numbers;
-        let progress = match given.progress {
+        answered(given.refusal, ())?;
+        Ok(match given.progress {
             1 => Progress::Stage(given.number),
             2 => Progress::Waiting(given.number),
             3 => Progress::Conflict(given.number),
-            _ => Progress::Done(given.number),
-        };
-        answered(given.refusal, progress)
+            4 => Progress::Done(given.number),
+            other => unreachable!("there is no progress {other}"),
+        })
     }
 
     /// Abandon: gives the free figure.

@@ -1,0 +1,104 @@
+//! What the exported functions hand back where they refuse: the number of the refusal, the
+//! record's numbers as they were, and zeros for all that they give.
+
+use library::desk::{old_bytes, OLD_RECORD};
+use wellcherry::raw::{self, AdvanceGiven, BeginGiven, FigureGiven};
+use wellcherry::{Numbers, Record, COMMITTED_ROW, DATA_ROW};
+
+const ROWS: usize = 2;
+
+/// A call of the raw function on a house of its own, with the columns that it takes and a data
+/// buffer of so many bytes.
+macro_rules! given {
+    ($call:ident [$($column:ident)+] $length:ident $($argument:expr),*) => {{
+        let (mut record, mut data, mut committed) = house();
+        data.truncate($length);
+        unsafe {
+            raw::$call(
+                record.numbers,
+                $(record.$column.as_mut_ptr(),)+
+                data.as_mut_ptr(),
+                data.len(),
+                committed.as_mut_ptr(),
+                committed.len(),
+                $($argument),*
+            )
+        }
+    }};
+}
+
+fn figure(given: FigureGiven) -> (Numbers, u32, [u32; 2]) {
+    (given.numbers, given.refusal, [given.figure, 0])
+}
+
+fn begun(given: BeginGiven) -> (Numbers, u32, [u32; 2]) {
+    (given.numbers, given.refusal, [given.number, given.snapshot])
+}
+
+fn advanced(given: AdvanceGiven) -> (Numbers, u32, [u32; 2]) {
+    (given.numbers, given.refusal, [given.progress, given.number])
+}
+
+/// A store with client 0 at work on cell 5 and no other, and its buffers.
+fn house() -> (Record, Vec<u8>, Vec<u8>) {
+    let (mut record, value) = (OLD_RECORD, [9; 16]);
+    let (mut data, mut committed) = (old_bytes(ROWS * DATA_ROW), old_bytes(ROWS * COMMITTED_ROW));
+    record.set_up(&mut data, &mut committed, 7, 0).expect("a set-up");
+    record.begin(&data, &committed, 0).expect("a begin");
+    record.write(&mut data, &committed, 0, 5, &value).expect("a write");
+    (record, data, committed)
+}
+
+/// What each call hands back: trim, free, begin, then those that need an open client.
+fn all_given(client: u32, length: usize) -> [(Numbers, u32, [u32; 2]); 7] {
+    let (numbers, value) = (house().0.numbers, [1; 16]);
+    let read = given!(wellcherry_call_read [stage number snapshot] length client, 5);
+    let free = given!(wellcherry_call_free [stage] length);
+    [
+        figure(given!(wellcherry_call_trim [stage number snapshot] length)),
+        (numbers, free.refusal, [free.figure, 0]),
+        begun(given!(wellcherry_call_begin
+            [stage number snapshot request commit request_waits commit_waits] length client)),
+        (numbers, read.refusal, [read.found, read.row as u32]),
+        figure(given!(wellcherry_call_write
+            [stage number] length client, 5, value.as_ptr(), value.len())),
+        advanced(given!(wellcherry_call_advance
+            [stage number snapshot request commit request_waits commit_waits] length client)),
+        figure(given!(wellcherry_call_abandon
+            [stage number snapshot request commit request_waits commit_waits] length client)),
+    ]
+}
+
+#[test]
+fn refused_calls_hand_back_zeros() {
+    let refused = |number| (house().0.numbers, number, [0, 0]);
+    let right = ROWS * DATA_ROW;
+    assert_eq!(all_given(0, right - 1), [refused(2); 7]);
+    assert_eq!(all_given(64, right)[2..], [refused(3); 5]);
+    assert_eq!(all_given(0, right)[2], refused(5));
+    assert_eq!(all_given(1, right)[3..], [refused(6); 4]);
+}
+
+/// A refused set-up hands back numbers of zeros too.
+#[test]
+fn a_refused_set_up() {
+    let (mut record, mut data, mut committed) = house();
+    let given = unsafe {
+        raw::wellcherry_call_set_up(
+            record.stage.as_mut_ptr(),
+            record.number.as_mut_ptr(),
+            record.snapshot.as_mut_ptr(),
+            record.request.as_mut_ptr(),
+            record.commit.as_mut_ptr(),
+            record.request_waits.as_mut_ptr(),
+            record.commit_waits.as_mut_ptr(),
+            data.as_mut_ptr(),
+            data.len(),
+            committed.as_mut_ptr(),
+            committed.len(),
+            0,
+            0,
+        )
+    };
+    assert_eq!(figure(given), (Record::NONE.numbers, 1, [0, 0]));
+}
