@@ -14,6 +14,7 @@
  *     wellcherry_write(&house, 5, 7, value, WELLCHERRY_VALUE, NULL);
  *     do wellcherry_advance(&house, 5, &progress, &number);
  *     while (progress == WELLCHERRY_STAGE);
+ *     (at WAITING let the others advance, then go on; at DONE it is committed; at CONFLICT begin again)
  *
  * PROVED. Every call is proved to end, to touch nothing outside what it is lent, and to leave in the record, in the
  * buffers and in its results exactly what its definition says, for every record, every byte of the buffers, every
@@ -74,7 +75,8 @@ enum wellcherry_refusal {
      * as many, the first number is 0 or the limit above 64 */
     WELLCHERRY_BAD_SET_UP = 1,
     /* the record and the buffers are not those of one set-up: a length is another, a row count is above the rows,
-     * the rows are not 1 to 1,024, or a stage is above 13 */
+     * the rows are not 1 to 1,024, or a stage is above 13. Advance also where request or commit numbers are used up
+     * or the committed buffer is full, which calls alone do not lead to */
     WELLCHERRY_UNFIT = 2,
     /* the client is above 63 */
     WELLCHERRY_NO_CLIENT = 3,

@@ -143,7 +143,12 @@ impl Record {
                 cell,
             )
         };
-        answered(given.refusal, (given.found == 1).then_some(given.row))
+        answered(given.refusal, ())?;
+        Ok(match given.found {
+            0 => None,
+            1 => Some(given.row),
+            other => unreachable!("there is no found {other}"),
+        })
     }
 
     /// Read: the sixteen bytes as they stand in the data buffer.
