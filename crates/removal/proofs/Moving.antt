@@ -9,13 +9,13 @@ use mathlib.Core.List.{List, [], _∷_, _++_, append-assoc, append-nil, flatten}
 use mathlib.Core.Bool.{Bool, true, false}
 use lib.Dec.{eqb}
 use native.Mathlib.Nat.{add-zero, mul-zero, mul-suc, mul-le-mul-left}
-use native.Mathlib.Numerals.{add-one, towards-suc}
+use native.Mathlib.Numerals.{add-one}
 use native.Mathlib.Omega.{arith}
 use borrow.Author.Count.{below-more}
 use borrow.Rule.Slice.PartMut.{putMid, post-is}
 use borrow.Author.Tests.{eq-eqb, ne-eqb, eqb-false}
 use lib.ListN.{length, set, take, drop, getD, replicate, length-append, length-drop, take-append-drop}
-use lib.Seq.{sets-eq, drop-cons, take-all, take-at, drop-at, take-add, length-take-le, drop-drop, getD-set-same, getD-set-other}
+use lib.Seq.{take-at, drop-at, take-add, length-take-le, drop-drop, getD-set-same, getD-set-other}
 use Rattle.spec.specs.Choice.{if_then_else_}
 use Rattle.spec.specs.Rows.{Row, part, spliced, rowAt, rowsIn, rowsFrom, layout, filter, tagOf, hasTag}
 use Rattle.spec.proofs.Bytes.{spliced-next, take-spliced, drop-spliced, length-spliced, drop-later}
@@ -24,47 +24,7 @@ use Rattle.spec.proofs.Laid.{laid-fewer, laid-same}
 use Rattle.search.proofs.Folds.{to-start}
 use Rattle.removal.specs.Inner.{keptFrom, otherTag, Flags, Left, InFront, Freed}
 
--- ---- a word, and a row of words
-
-part-more : (k : ℕ) (s : List ℕ) (at : ℕ) → at < length s → part at (suc k) s ≡ getD s at 0 ∷ part (suc at) k s
-part-more k s at h = rw (drop-cons s at 0 h)
-
-part-eight : (s : List ℕ) (at : ℕ) → at + 8 ≤ length s
-    → part at 8 s ≡ getD s at 0 ∷ getD s (at + 1) 0 ∷ getD s (at + 2) 0 ∷ getD s (at + 3) 0 ∷ getD s (at + 4) 0 ∷ getD s (at + 5) 0 ∷ getD s
-    (at + 6) 0 ∷ getD s (at + 7) 0 ∷ []
-part-eight s at h =
-    simp towards-suc
-    (part-more 7 s at (omega arith)
-    ∙ rw (
-      part-more 6 s (suc at) (omega arith),
-      part-more 5 s (suc (suc at)) (omega arith),
-      part-more 4 s (suc (suc (suc at))) (omega arith),
-      part-more 3 s (suc (suc (suc (suc at)))) (omega arith),
-      part-more 2 s (suc (suc (suc (suc (suc at))))) (omega arith),
-      part-more 1 s (suc (suc (suc (suc (suc (suc at)))))) (omega arith),
-      part-more 0 s (suc (suc (suc (suc (suc (suc (suc at))))))) (omega arith),
-    ))
-
-spliced-eight : (s : List ℕ) (at a b c d e f g h : ℕ) → at + 8 ≤ length s
-    → set (set (set (set (set (set (set (set s at a) (at + 1) b) (at + 2) c) (at + 3) d) (at + 4) e) (at + 5) f) (at + 6) g) (at + 7) h
-    ≡ spliced at (a ∷ b ∷ c ∷ d ∷ e ∷ f ∷ g ∷ h ∷ []) s
-unfolding spliced
-spliced-eight s at a b c d e f g h l = simp towards-suc (simp towards-suc at (sets-eq (a ∷ b ∷ c ∷ d ∷ e ∷ f ∷ g ∷ h ∷ []) s at l))
-
--- a word is read
-pub word-read : (s : List ℕ) (at : ℕ) → at + 8 ≤ length s
-    → getD s at 0 ∷ getD s (at + 1) 0 ∷ getD s (at + 2) 0 ∷ getD s (at + 3) 0 ∷ getD s (at + 4) 0 ∷ getD s (at + 5) 0 ∷ getD s (at + 6) 0
-    ∷ getD s (at + 7) 0 ∷ [] ≡ part at 8 s
-word-read s at h = sym (part-eight s at h)
-
--- a word is stored
-pub word-stored : (s : List ℕ) (at : ℕ) (word : List ℕ) → at + 8 ≤ length s → length word ≡ 8
-    → set (set (set (set (set (set (set (set s at (getD word 0 0)) (at + 1) (getD word 1 0)) (at + 2) (getD word 2 0)) (at + 3) (getD word 3 0))
-    (at + 4) (getD word 4 0)) (at + 5) (getD word 5 0)) (at + 6) (getD word 6 0)) (at + 7) (getD word 7 0)
-    ≡ spliced at word s
-word-stored s at word h e =
-    let whole : part 0 8 word ≡ word = take-all 8 word (omega arith) in
-    spliced-eight s at _ _ _ _ _ _ _ _ h ∙ ap (λ (v : List ℕ). spliced at v s) (word-read word 0 (omega arith) ∙ whole)
+-- ---- a row of words
 
 -- a bytes were put in, and then the m that stood behind them
 parts-stored : (s : List ℕ) (from to a m : ℕ) → to ≤ from → from + (a + m) ≤ length s

@@ -10,36 +10,6 @@ use spec::DATA_ROW;
 
 // ---- the compaction
 
-// Eight bytes.
-fn word_at(buf: &[u8], at: usize) -> [u8; 8]
-    requires { ⌜ at + 8 ≤ length (now buf) ⌝ }
-    ensures { λ r. ⌜ r ≡ part at 8 (now (buf .entry)) ⌝ }
-{
-    let a = buf[at];
-    let b = buf[at + 1];
-    let c = buf[at + 2];
-    let d = buf[at + 3];
-    let e = buf[at + 4];
-    let f = buf[at + 5];
-    let g = buf[at + 6];
-    let h = buf[at + 7];
-    [a, b, c, d, e, f, g, h]
-}
-
-fn put_word(buf: &mut [u8], at: usize, word: [u8; 8])
-    requires { ⌜ at + 8 ≤ length (now buf) ⌝ }
-    ensures { λ _. ⌜ now (buf .exit) ≡ spliced at word (now (buf .entry)) ⌝ }
-{
-    buf[at] = word[0];
-    buf[at + 1] = word[1];
-    buf[at + 2] = word[2];
-    buf[at + 3] = word[3];
-    buf[at + 4] = word[4];
-    buf[at + 5] = word[5];
-    buf[at + 6] = word[6];
-    buf[at + 7] = word[7];
-}
-
 // Moves a row of some words of eight bytes down; a data row, three words, is read before it is stored.
 fn move_row(buf: &mut [u8], words: usize, from: usize, to: usize)
     requires { ⌜ to ≤ from ⌝ }
@@ -47,18 +17,18 @@ fn move_row(buf: &mut [u8], words: usize, from: usize, to: usize)
     ensures { λ _. ⌜ now (buf .exit) ≡ spliced to (part from (8 * words) (now (buf .entry))) (now (buf .entry)) ⌝ }
 {
     if words == 3 {
-        let a = word_at(buf, from);
-        let b = word_at(buf, from + 8);
-        let c = word_at(buf, from + 16);
-        put_word(buf, to, a);
-        put_word(buf, to + 8, b);
-        put_word(buf, to + 16, c);
+        let a = rows::word_at(buf, from);
+        let b = rows::word_at(buf, from + 8);
+        let c = rows::word_at(buf, from + 16);
+        rows::put_word(buf, to, a);
+        rows::put_word(buf, to + 8, b);
+        rows::put_word(buf, to + 16, c);
         return;
     }
     let mut k = 0;
     while k < words {
-        let word = word_at(buf, from + 8 * k);
-        put_word(buf, to + 8 * k, word);
+        let word = rows::word_at(buf, from + 8 * k);
+        rows::put_word(buf, to + 8 * k, word);
         k += 1;
     }
 }

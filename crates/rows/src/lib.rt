@@ -47,16 +47,46 @@ fn put_u32(s: &mut [u8], at: usize, x: u32)
     s[at + 3] = (x / 256 / 256 / 256 % 256) as u8;
 }
 
-// Copies all of src into dst from index at.
-fn copy_at(dst: &mut [u8], at: usize, src: &[u8])
-    requires { ⌜ at + length (now src) ≤ length (now dst) ⌝ }
-    ensures { λ _. ⌜ now (dst .exit) ≡ spliced at (now (src .entry)) (now (dst .entry)) ⌝ }
+// Eight bytes.
+pub fn word_at(buf: &[u8], at: usize) -> [u8; 8]
+    requires { ⌜ at + 8 ≤ length (now buf) ⌝ }
+    ensures { λ r. ⌜ r ≡ part at 8 (now (buf .entry)) ⌝ }
 {
-    let mut i = 0;
-    while i < src.len() {
-        dst[at + i] = src[i];
-        i += 1;
-    }
+    let a = buf[at];
+    let b = buf[at + 1];
+    let c = buf[at + 2];
+    let d = buf[at + 3];
+    let e = buf[at + 4];
+    let f = buf[at + 5];
+    let g = buf[at + 6];
+    let h = buf[at + 7];
+    [a, b, c, d, e, f, g, h]
+}
+
+pub fn put_word(buf: &mut [u8], at: usize, word: [u8; 8])
+    requires { ⌜ at + 8 ≤ length (now buf) ⌝ }
+    ensures { λ _. ⌜ now (buf .exit) ≡ spliced at word (now (buf .entry)) ⌝ }
+{
+    buf[at] = word[0];
+    buf[at + 1] = word[1];
+    buf[at + 2] = word[2];
+    buf[at + 3] = word[3];
+    buf[at + 4] = word[4];
+    buf[at + 5] = word[5];
+    buf[at + 6] = word[6];
+    buf[at + 7] = word[7];
+}
+
+// Copies a value into dst from index at: all of it is read before any of it is stored.
+fn put_value(dst: &mut [u8], at: usize, value: &[u8])
+    requires { ⌜ at + 16 ≤ length (now dst) ⌝ }
+    requires { ⌜ length (now value) ≡ 16 ⌝ }
+    ensures { λ _. ⌜ now (dst .exit) ≡ spliced at (now (value .entry)) (now (dst .entry)) ⌝ }
+{
+    let a = word_at(value, 0);
+    let b = word_at(value, 8);
+    put_word(dst, at, a);
+    put_word(dst, at + 8, b);
 }
 
 // Makes every byte zero.
@@ -129,7 +159,7 @@ fn write_row(row: &mut [u8], tag: u32, cell: u32, value: &[u8])
 {
     put_u32(row, 0, tag);
     put_u32(row, 4, cell);
-    copy_at(row, 8, value);
+    put_value(row, 8, value);
 }
 
 // Writes a data row directly behind the used ones: the part from the used end is lent on.
@@ -168,5 +198,5 @@ pub fn replace_value(rows: &mut [u8], i: usize, value: &[u8])
     requires { ⌜ length (now value) ≡ 16 ⌝ }
     ensures { λ _. ⌜ ValueReplaced i (now (value .entry)) (now (rows .entry)) (now (rows .exit)) ⌝ }
 {
-    copy_at(rows, DATA_ROW * i + 8, value);
+    put_value(rows, DATA_ROW * i + 8, value);
 }

@@ -12,7 +12,7 @@ use std::io::Write;
 use std::path::{Path, PathBuf};
 use std::process::{Command, Stdio};
 
-const LINES: usize = 120_000;
+const LINES: usize = 60_000;
 const SEEDS: std::ops::RangeInclusive<u64> = 1..=5;
 
 /// Which refusals each call has, by c/wellcherry.h.

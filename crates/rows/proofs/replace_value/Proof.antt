@@ -10,7 +10,7 @@ returns : tie.Need-returns
 unfolding withValue
 returns c =
     let a = c .before .before .before .before .before .before .args in
-    λ n h l. c .before .before .copy-at .ensures ∙ sym (laid-set 24 n (a .i) 8 (a .value .now) (a .rows .now) h (omega arith) l)
+    λ n h l. c .before .before .put-value .ensures ∙ sym (laid-set 24 n (a .i) 8 (a .value .now) (a .rows .now) h (omega arith) l)
 
 pub replace-value-spec : {M : Type 1} → statement M
 replace-value-spec = tie.close (tie.spec

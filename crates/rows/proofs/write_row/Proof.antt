@@ -8,7 +8,7 @@ returns : tie.Need-returns
 returns c =
     let start = c .before .before .before .before .before .before .before .before .before .before .before .before .before .before in
     rw (
-      c .before .before .copy-at .ensures,
+      c .before .before .put-value .ensures,
       c .before .before .before .before .before .before .put-u322 .ensures,
       c .before .before .before .before .before .before .before .before .before .before .put-u32 .ensures,
     )

@@ -1,9 +1,9 @@
 -- Eight reads.
 use native.Mathlib.Omega.{arith}
-use Rattle.removal.proofs.Moving.{word-read}
+use Rattle.rows.proofs.Words.{word-read}
 use borrow.Author.Needs.{needs}
-use Rattle.removal.proofs.word_at.Statement.{statement}
-use Rattle.removal.proofs.word_at.Tie as tie
+use Rattle.rows.proofs.word_at.Statement.{statement}
+use Rattle.rows.proofs.word_at.Tie as tie
 
 returns : tie.Need-returns
 returns c = word-read (c .before .before .before .before .before .before .before .before .args .buf .now) (c .before .before .before .before

@@ -1,10 +1,10 @@
 -- Eight stores.
 use lib.ListN.{length-set}
 use native.Mathlib.Omega.{arith}
-use Rattle.removal.proofs.Moving.{word-stored}
+use Rattle.rows.proofs.Words.{word-stored}
 use borrow.Author.Needs.{needs}
-use Rattle.removal.proofs.put_word.Statement.{statement}
-use Rattle.removal.proofs.put_word.Tie as tie
+use Rattle.rows.proofs.put_word.Statement.{statement}
+use Rattle.rows.proofs.put_word.Tie as tie
 
 same-length : tie.Need-same-length
 same-length c = simp length-set
