@@ -112,7 +112,7 @@ enum wellcherry_progress {
 
 /* The record. A program may read every field; the calls alone should write them. A client has an open transaction
  * where `number` is not 0. Bit k of a waiting list says that the client waits for client k. */
-struct wellcherry_numbers {
+struct wellcherry_head {
     uint32_t rows;      /* of the store; 0 before a set-up */
     uint32_t limit;     /* how many cells a transaction may write */
     uint32_t issued;    /* the last transaction number given out */
@@ -124,7 +124,7 @@ struct wellcherry_numbers {
 };
 
 struct wellcherry_record {
-    struct wellcherry_numbers numbers;
+    struct wellcherry_head head;
     uint32_t stage[WELLCHERRY_CLIENTS];    /* 0 while it works, 1 to 13 while it commits */
     uint32_t number[WELLCHERRY_CLIENTS];   /* of its transaction, 0 for none */
     uint32_t snapshot[WELLCHERRY_CLIENTS]; /* the commit that it reads at */
@@ -143,17 +143,15 @@ struct wellcherry {
     size_t committed_bytes;
 };
 
-/* ---- The functions of libwellcherry.a, for the calls below and for other languages. The arrays of the record are
- * lent, its numbers go in and come back by value. Read and free change nothing, and hand no numbers back. */
+/* ---- The functions of libwellcherry.a, for the calls below and for other languages. The record is lent in its
+ * parts: its numbers, and the arrays that a call looks at. */
 
 struct wellcherry_figure_given {
-    struct wellcherry_numbers numbers;
     uint32_t refusal;
     uint32_t figure;
 };
 
 struct wellcherry_begin_given {
-    struct wellcherry_numbers numbers;
     uint32_t refusal;
     uint32_t number;
     uint32_t snapshot;
@@ -166,54 +164,52 @@ struct wellcherry_read_given {
 };
 
 struct wellcherry_advance_given {
-    struct wellcherry_numbers numbers;
     uint32_t refusal;
     uint32_t progress;
     uint32_t number;
 };
 
-struct wellcherry_free_given {
-    uint32_t refusal;
-    uint32_t figure;
-};
-
 /* clang-format off */
 struct wellcherry_figure_given wellcherry_call_set_up(
+    struct wellcherry_head *head,
     uint32_t *stage, uint32_t *number, uint32_t *snapshot, uint32_t *request, uint32_t *commit,
     uint64_t *request_waits, uint64_t *commit_waits,
     uint8_t *data, size_t data_bytes, uint8_t *committed, size_t committed_bytes, uint32_t first, uint32_t limit);
 struct wellcherry_begin_given wellcherry_call_begin(
-    struct wellcherry_numbers numbers,
+    struct wellcherry_head *head,
     uint32_t *stage, uint32_t *number, uint32_t *snapshot, uint32_t *request, uint32_t *commit,
     uint64_t *request_waits, uint64_t *commit_waits,
     const uint8_t *data, size_t data_bytes, const uint8_t *committed, size_t committed_bytes, uint32_t client);
 struct wellcherry_read_given wellcherry_call_read(
-    struct wellcherry_numbers numbers, const uint32_t *stage, const uint32_t *number, const uint32_t *snapshot,
+    const struct wellcherry_head *head,
+    const uint32_t *stage, const uint32_t *number, const uint32_t *snapshot,
     const uint8_t *data, size_t data_bytes, const uint8_t *committed, size_t committed_bytes,
     uint32_t client, uint32_t cell);
 struct wellcherry_figure_given wellcherry_call_write(
-    struct wellcherry_numbers numbers, const uint32_t *stage, const uint32_t *number,
+    struct wellcherry_head *head,
+    const uint32_t *stage, const uint32_t *number,
     uint8_t *data, size_t data_bytes, const uint8_t *committed, size_t committed_bytes,
     uint32_t client, uint32_t cell, const uint8_t *value, size_t value_bytes);
 struct wellcherry_advance_given wellcherry_call_advance(
-    struct wellcherry_numbers numbers,
+    struct wellcherry_head *head,
     uint32_t *stage, uint32_t *number, uint32_t *snapshot, uint32_t *request, uint32_t *commit,
     uint64_t *request_waits, uint64_t *commit_waits,
     uint8_t *data, size_t data_bytes, uint8_t *committed, size_t committed_bytes, uint32_t client);
 struct wellcherry_figure_given wellcherry_call_abandon(
-    struct wellcherry_numbers numbers,
+    struct wellcherry_head *head,
     uint32_t *stage, uint32_t *number, uint32_t *snapshot, uint32_t *request, uint32_t *commit,
     uint64_t *request_waits, uint64_t *commit_waits,
     uint8_t *data, size_t data_bytes, const uint8_t *committed, size_t committed_bytes, uint32_t client);
 struct wellcherry_figure_given wellcherry_call_trim(
-    struct wellcherry_numbers numbers, const uint32_t *stage, const uint32_t *number, const uint32_t *snapshot,
+    struct wellcherry_head *head,
+    const uint32_t *stage, const uint32_t *number, const uint32_t *snapshot,
     uint8_t *data, size_t data_bytes, uint8_t *committed, size_t committed_bytes);
-struct wellcherry_free_given wellcherry_call_free(
-    struct wellcherry_numbers numbers, const uint32_t *stage,
+struct wellcherry_figure_given wellcherry_call_free(
+    const struct wellcherry_head *head, const uint32_t *stage,
     const uint8_t *data, size_t data_bytes, const uint8_t *committed, size_t committed_bytes);
 
-#define WELLCHERRY_COLUMNS(record) \
-    (record).stage, (record).number, (record).snapshot, (record).request, (record).commit, \
+#define WELLCHERRY_RECORD(record) \
+    &(record).head, (record).stage, (record).number, (record).snapshot, (record).request, (record).commit, \
     (record).request_waits, (record).commit_waits
 #define WELLCHERRY_BUFFERS(house) (house)->data, (house)->data_bytes, (house)->committed, (house)->committed_bytes
 /* clang-format on */
@@ -235,8 +231,7 @@ static inline uint32_t wellcherry_set_up(struct wellcherry *house, uint8_t *data
                                          uint8_t *committed, size_t committed_bytes, uint32_t first, uint32_t limit,
                                          uint32_t *free_rows) {
     const struct wellcherry_figure_given given = wellcherry_call_set_up(
-        WELLCHERRY_COLUMNS(house->record), data, data_bytes, committed, committed_bytes, first, limit);
-    house->record.numbers = given.numbers;
+        WELLCHERRY_RECORD(house->record), data, data_bytes, committed, committed_bytes, first, limit);
     house->data = data;
     house->data_bytes = data_bytes;
     house->committed = committed;
@@ -251,8 +246,7 @@ static inline uint32_t wellcherry_set_up(struct wellcherry *house, uint8_t *data
 static inline uint32_t wellcherry_begin(struct wellcherry *house, uint32_t client, uint32_t *number,
                                         uint32_t *snapshot) {
     const struct wellcherry_begin_given given = wellcherry_call_begin(
-        house->record.numbers, WELLCHERRY_COLUMNS(house->record), WELLCHERRY_BUFFERS(house), client);
-    house->record.numbers = given.numbers;
+        WELLCHERRY_RECORD(house->record), WELLCHERRY_BUFFERS(house), client);
     if (number) *number = given.number;
     return wellcherry_put(snapshot, given.snapshot, given.refusal);
 }
@@ -265,7 +259,7 @@ static inline uint32_t wellcherry_begin(struct wellcherry *house, uint32_t clien
 static inline uint32_t wellcherry_read(const struct wellcherry *house, uint32_t client, uint32_t cell,
                                        const uint8_t **value) {
     const struct wellcherry_read_given given =
-        wellcherry_call_read(house->record.numbers, house->record.stage, house->record.number, house->record.snapshot,
+        wellcherry_call_read(&house->record.head, house->record.stage, house->record.number, house->record.snapshot,
                              WELLCHERRY_BUFFERS(house), client, cell);
     if (value) *value = given.found ? house->data + given.row * WELLCHERRY_DATA_ROW + WELLCHERRY_VALUE_AT : NULL;
     return given.refusal;
@@ -279,9 +273,8 @@ static inline uint32_t wellcherry_read(const struct wellcherry *house, uint32_t 
 static inline uint32_t wellcherry_write(struct wellcherry *house, uint32_t client, uint32_t cell,
                                         const uint8_t *value, size_t value_bytes, uint32_t *free_rows) {
     const struct wellcherry_figure_given given =
-        wellcherry_call_write(house->record.numbers, house->record.stage, house->record.number,
+        wellcherry_call_write(&house->record.head, house->record.stage, house->record.number,
                               WELLCHERRY_BUFFERS(house), client, cell, value, value_bytes);
-    house->record.numbers = given.numbers;
     return wellcherry_put(free_rows, given.figure, given.refusal);
 }
 
@@ -292,8 +285,7 @@ static inline uint32_t wellcherry_write(struct wellcherry *house, uint32_t clien
 static inline uint32_t wellcherry_advance(struct wellcherry *house, uint32_t client, uint32_t *progress,
                                           uint32_t *number) {
     const struct wellcherry_advance_given given = wellcherry_call_advance(
-        house->record.numbers, WELLCHERRY_COLUMNS(house->record), WELLCHERRY_BUFFERS(house), client);
-    house->record.numbers = given.numbers;
+        WELLCHERRY_RECORD(house->record), WELLCHERRY_BUFFERS(house), client);
     if (progress) *progress = given.progress;
     return wellcherry_put(number, given.number, given.refusal);
 }
@@ -303,8 +295,7 @@ static inline uint32_t wellcherry_advance(struct wellcherry *house, uint32_t cli
  * Refused: UNFIT (2), NO_CLIENT (3), NOT_OPEN (6), WRONG_STAGE (7) at stages 12 and 13: its commit is made. */
 static inline uint32_t wellcherry_abandon(struct wellcherry *house, uint32_t client, uint32_t *free_rows) {
     const struct wellcherry_figure_given given = wellcherry_call_abandon(
-        house->record.numbers, WELLCHERRY_COLUMNS(house->record), WELLCHERRY_BUFFERS(house), client);
-    house->record.numbers = given.numbers;
+        WELLCHERRY_RECORD(house->record), WELLCHERRY_BUFFERS(house), client);
     return wellcherry_put(free_rows, given.figure, given.refusal);
 }
 
@@ -313,9 +304,8 @@ static inline uint32_t wellcherry_abandon(struct wellcherry *house, uint32_t cli
  * Refused: UNFIT (2). */
 static inline uint32_t wellcherry_trim(struct wellcherry *house, uint32_t *dropped) {
     const struct wellcherry_figure_given given =
-        wellcherry_call_trim(house->record.numbers, house->record.stage, house->record.number, house->record.snapshot,
+        wellcherry_call_trim(&house->record.head, house->record.stage, house->record.number, house->record.snapshot,
                              WELLCHERRY_BUFFERS(house));
-    house->record.numbers = given.numbers;
     return wellcherry_put(dropped, given.figure, given.refusal);
 }
 
@@ -323,8 +313,8 @@ static inline uint32_t wellcherry_trim(struct wellcherry *house, uint32_t *dropp
  * Gives the free figure: the data rows not in use.
  * Refused: UNFIT (2). */
 static inline uint32_t wellcherry_free(const struct wellcherry *house, uint32_t *free_rows) {
-    const struct wellcherry_free_given given =
-        wellcherry_call_free(house->record.numbers, house->record.stage, WELLCHERRY_BUFFERS(house));
+    const struct wellcherry_figure_given given =
+        wellcherry_call_free(&house->record.head, house->record.stage, WELLCHERRY_BUFFERS(house));
     return wellcherry_put(free_rows, given.figure, given.refusal);
 }
 

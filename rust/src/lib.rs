@@ -5,7 +5,7 @@
 
 pub mod raw;
 
-pub use raw::{Numbers, Record, CLIENTS};
+pub use raw::{Head, Record, CLIENTS};
 
 /// Bytes of a data row.
 pub const DATA_ROW: usize = 24;
@@ -40,13 +40,13 @@ fn answered<A>(refusal: u32, given: A) -> Answer<A> {
     }
 }
 
-/// A call that is lent all columns of the record: what comes before them, and after.
-macro_rules! on_columns {
-    ($call:ident, $record:expr, [$($before:expr),*], $($after:expr),*) => {
+/// A call that is lent the whole record, and what comes behind it.
+macro_rules! on_record {
+    ($call:ident, $record:expr, $($behind:expr),*) => {
         // SAFETY: each pointer is to memory of the length that the call takes, lent for the call alone.
         unsafe {
             raw::$call(
-                $($before,)*
+                &mut $record.head,
                 $record.stage.as_mut_ptr(),
                 $record.number.as_mut_ptr(),
                 $record.snapshot.as_mut_ptr(),
@@ -54,7 +54,7 @@ macro_rules! on_columns {
                 $record.commit.as_mut_ptr(),
                 $record.request_waits.as_mut_ptr(),
                 $record.commit_waits.as_mut_ptr(),
-                $($after),*
+                $($behind),*
             )
         }
     };
@@ -63,7 +63,7 @@ macro_rules! on_columns {
 impl Record {
     /// A record of zeros: before a set-up, every call on it is refused with 2.
     pub const NONE: Record = Record {
-        numbers: Numbers {
+        head: Head {
             rows: 0,
             limit: 0,
             issued: 0,
@@ -90,10 +90,9 @@ impl Record {
         first: u32,
         limit: u32,
     ) -> Answer<u32> {
-        let given = on_columns!(
+        let given = on_record!(
             wellcherry_call_set_up,
             self,
-            [],
             data.as_mut_ptr(),
             data.len(),
             committed.as_mut_ptr(),
@@ -101,23 +100,20 @@ impl Record {
             first,
             limit
         );
-        self.numbers = given.numbers;
         answered(given.refusal, given.figure)
     }
 
     /// Begin: the transaction's number and its snapshot.
     pub fn begin(&mut self, data: &[u8], committed: &[u8], client: u32) -> Answer<(u32, u32)> {
-        let given = on_columns!(
+        let given = on_record!(
             wellcherry_call_begin,
             self,
-            [self.numbers],
             data.as_ptr(),
             data.len(),
             committed.as_ptr(),
             committed.len(),
             client
         );
-        self.numbers = given.numbers;
         answered(given.refusal, (given.number, given.snapshot))
     }
 
@@ -131,7 +127,7 @@ impl Record {
     ) -> Answer<Option<usize>> {
         let given = unsafe {
             raw::wellcherry_call_read(
-                self.numbers,
+                &self.head,
                 self.stage.as_ptr(),
                 self.number.as_ptr(),
                 self.snapshot.as_ptr(),
@@ -174,7 +170,7 @@ impl Record {
     ) -> Answer<u32> {
         let given = unsafe {
             raw::wellcherry_call_write(
-                self.numbers,
+                &mut self.head,
                 self.stage.as_ptr(),
                 self.number.as_ptr(),
                 data.as_mut_ptr(),
@@ -187,7 +183,6 @@ impl Record {
                 value.len(),
             )
         };
-        self.numbers = given.numbers;
         answered(given.refusal, given.figure)
     }
 
@@ -198,17 +193,15 @@ impl Record {
         committed: &mut [u8],
         client: u32,
     ) -> Answer<Progress> {
-        let given = on_columns!(
+        let given = on_record!(
             wellcherry_call_advance,
             self,
-            [self.numbers],
             data.as_mut_ptr(),
             data.len(),
             committed.as_mut_ptr(),
             committed.len(),
             client
         );
-        self.numbers = given.numbers;
         answered(given.refusal, ())?;
         Ok(match given.progress {
             1 => Progress::Stage(given.number),
@@ -221,17 +214,15 @@ impl Record {
 
     /// Abandon: gives the free figure.
     pub fn abandon(&mut self, data: &mut [u8], committed: &[u8], client: u32) -> Answer<u32> {
-        let given = on_columns!(
+        let given = on_record!(
             wellcherry_call_abandon,
             self,
-            [self.numbers],
             data.as_mut_ptr(),
             data.len(),
             committed.as_ptr(),
             committed.len(),
             client
         );
-        self.numbers = given.numbers;
         answered(given.refusal, given.figure)
     }
 
@@ -239,7 +230,7 @@ impl Record {
     pub fn trim(&mut self, data: &mut [u8], committed: &mut [u8]) -> Answer<u32> {
         let given = unsafe {
             raw::wellcherry_call_trim(
-                self.numbers,
+                &mut self.head,
                 self.stage.as_ptr(),
                 self.number.as_ptr(),
                 self.snapshot.as_ptr(),
@@ -249,7 +240,6 @@ impl Record {
                 committed.len(),
             )
         };
-        self.numbers = given.numbers;
         answered(given.refusal, given.figure)
     }
 
@@ -257,7 +247,7 @@ impl Record {
     pub fn free(&self, data: &[u8], committed: &[u8]) -> Answer<u32> {
         let given = unsafe {
             raw::wellcherry_call_free(
-                self.numbers,
+                &self.head,
                 self.stage.as_ptr(),
                 data.as_ptr(),
                 data.len(),

@@ -1,5 +1,4 @@
-//! The exported functions as they are: the record's arrays by pointer, a column each, its
-//! numbers by value, in and out.
+//! The exported functions as they are: the record in its parts, each behind a pointer.
 #![allow(missing_docs)]
 
 /// How many clients there are.
@@ -8,7 +7,7 @@ pub const CLIENTS: usize = 64;
 /// The numbers of a record.
 #[repr(C)]
 #[derive(Clone, Copy, Debug, PartialEq, Eq)]
-pub struct Numbers {
+pub struct Head {
     pub rows: u32,
     pub limit: u32,
     pub issued: u32,
@@ -23,7 +22,7 @@ pub struct Numbers {
 #[repr(C)]
 #[derive(Clone, Copy, Debug, PartialEq, Eq)]
 pub struct Record {
-    pub numbers: Numbers,
+    pub head: Head,
     pub stage: [u32; CLIENTS],
     pub number: [u32; CLIENTS],
     pub snapshot: [u32; CLIENTS],
@@ -35,14 +34,12 @@ pub struct Record {
 
 #[repr(C)]
 pub struct FigureGiven {
-    pub numbers: Numbers,
     pub refusal: u32,
     pub figure: u32,
 }
 
 #[repr(C)]
 pub struct BeginGiven {
-    pub numbers: Numbers,
     pub refusal: u32,
     pub number: u32,
     pub snapshot: u32,
@@ -57,20 +54,14 @@ pub struct ReadGiven {
 
 #[repr(C)]
 pub struct AdvanceGiven {
-    pub numbers: Numbers,
     pub refusal: u32,
     pub progress: u32,
     pub number: u32,
 }
 
-#[repr(C)]
-pub struct FreeGiven {
-    pub refusal: u32,
-    pub figure: u32,
-}
-
 extern "C" {
     pub fn wellcherry_call_set_up(
+        head: *mut Head,
         stage: *mut u32,
         number: *mut u32,
         snapshot: *mut u32,
@@ -86,7 +77,7 @@ extern "C" {
         limit: u32,
     ) -> FigureGiven;
     pub fn wellcherry_call_begin(
-        numbers: Numbers,
+        head: *mut Head,
         stage: *mut u32,
         number: *mut u32,
         snapshot: *mut u32,
@@ -101,7 +92,7 @@ extern "C" {
         client: u32,
     ) -> BeginGiven;
     pub fn wellcherry_call_read(
-        numbers: Numbers,
+        head: *const Head,
         stage: *const u32,
         number: *const u32,
         snapshot: *const u32,
@@ -113,7 +104,7 @@ extern "C" {
         cell: u32,
     ) -> ReadGiven;
     pub fn wellcherry_call_write(
-        numbers: Numbers,
+        head: *mut Head,
         stage: *const u32,
         number: *const u32,
         data: *mut u8,
@@ -126,7 +117,7 @@ extern "C" {
         value_bytes: usize,
     ) -> FigureGiven;
     pub fn wellcherry_call_advance(
-        numbers: Numbers,
+        head: *mut Head,
         stage: *mut u32,
         number: *mut u32,
         snapshot: *mut u32,
@@ -141,7 +132,7 @@ extern "C" {
         client: u32,
     ) -> AdvanceGiven;
     pub fn wellcherry_call_abandon(
-        numbers: Numbers,
+        head: *mut Head,
         stage: *mut u32,
         number: *mut u32,
         snapshot: *mut u32,
@@ -156,7 +147,7 @@ extern "C" {
         client: u32,
     ) -> FigureGiven;
     pub fn wellcherry_call_trim(
-        numbers: Numbers,
+        head: *mut Head,
         stage: *const u32,
         number: *const u32,
         snapshot: *const u32,
@@ -166,11 +157,11 @@ extern "C" {
         committed_bytes: usize,
     ) -> FigureGiven;
     pub fn wellcherry_call_free(
-        numbers: Numbers,
+        head: *const Head,
         stage: *const u32,
         data: *const u8,
         data_bytes: usize,
         committed: *const u8,
         committed_bytes: usize,
-    ) -> FreeGiven;
+    ) -> FigureGiven;
 }

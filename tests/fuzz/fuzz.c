@@ -3,7 +3,7 @@
  *
  * Each object that is lent stands by itself between two forbidden pages, against the one or the other, so that a
  * byte touched outside it stops the run. (The library is not instrumented: a sanitizer sees nothing inside it.) Each
- * call is made twice: by the archive's function on a copy of the house, with a place of its own for each column of
+ * call is made twice: by the archive's function on a copy of the house, with a place of its own for each part of
  * the record, and by the header's call on the house.
  *
  * Checked at each call: both give the same and leave the same record and bytes; a refused call gives zeros and
@@ -21,7 +21,7 @@ enum { LONG_RUN = 1000000 };
 /* ---- The calls, and what is known of each */
 
 enum kind { SET_UP, BEGIN, READ, WRITE, ADVANCE, ABANDON, TRIM, FREE, KINDS };
-enum part { NUMBERS = 1, CLIENTS = 2, DATA = 4, COMMITTED = 8 };
+enum part { HEAD = 1, CLIENTS = 2, DATA = 4, COMMITTED = 8 };
 
 enum { REFUSALS = WELLCHERRY_WRONG_LENGTH + 1, PROGRESSES = WELLCHERRY_DONE + 1 };
 #define REFUSAL(name) (1u << WELLCHERRY_##name)
@@ -32,16 +32,16 @@ static const struct {
     uint32_t refusals; /* its list, one bit each, and that of OK */
     uint32_t changes;  /* the parts that it may change where it is answered */
 } calls_known[KINDS] = {
-    {"set-up", REFUSAL(OK) | REFUSAL(BAD_SET_UP), NUMBERS | CLIENTS | DATA | COMMITTED},
-    {"begin", NAMED | REFUSAL(ALREADY_OPEN) | REFUSAL(NUMBERS_USED_UP), NUMBERS | CLIENTS},
+    {"set-up", REFUSAL(OK) | REFUSAL(BAD_SET_UP), HEAD | CLIENTS | DATA | COMMITTED},
+    {"begin", NAMED | REFUSAL(ALREADY_OPEN) | REFUSAL(NUMBERS_USED_UP), HEAD | CLIENTS},
     {"read", NAMED | REFUSAL(NO_CELL) | REFUSAL(NOT_OPEN) | REFUSAL(WRONG_STAGE), 0},
     {"write",
      NAMED | REFUSAL(NO_CELL) | REFUSAL(WRONG_LENGTH) | REFUSAL(NOT_OPEN) | REFUSAL(WRONG_STAGE) |
          REFUSAL(CELL_LIMIT) | REFUSAL(NO_FREE_ROW),
-     NUMBERS | DATA},
-    {"advance", NAMED | REFUSAL(NOT_OPEN), NUMBERS | CLIENTS | DATA | COMMITTED},
-    {"abandon", NAMED | REFUSAL(NOT_OPEN) | REFUSAL(WRONG_STAGE), NUMBERS | CLIENTS | DATA},
-    {"trim", REFUSAL(OK) | REFUSAL(UNFIT), NUMBERS | DATA | COMMITTED},
+     HEAD | DATA},
+    {"advance", NAMED | REFUSAL(NOT_OPEN), HEAD | CLIENTS | DATA | COMMITTED},
+    {"abandon", NAMED | REFUSAL(NOT_OPEN) | REFUSAL(WRONG_STAGE), HEAD | CLIENTS | DATA},
+    {"trim", REFUSAL(OK) | REFUSAL(UNFIT), HEAD | DATA | COMMITTED},
     {"free", REFUSAL(OK) | REFUSAL(UNFIT), 0},
 };
 
@@ -60,7 +60,7 @@ struct given {
 
 /* The house as the archive's functions take it. */
 struct apart {
-    struct wellcherry_numbers numbers;
+    struct wellcherry_head *head;
     uint32_t *stage, *number, *snapshot, *request, *commit;
     uint64_t *request_waits, *commit_waits;
     uint8_t *data;
@@ -74,7 +74,7 @@ struct apart {
 enum { DATA_ROOM = 25 * WELLCHERRY_MAX_ROWS, COMMITTED_ROOM = 9 * WELLCHERRY_MAX_ROWS };
 
 static struct area house_area, data_area, committed_area, value_area, first_area, second_area, pointer_area;
-static struct area column_areas[7], data_copy_area, committed_copy_area;
+static struct area part_areas[8], data_copy_area, committed_copy_area;
 
 static struct wellcherry *house;
 static struct apart copy;
@@ -92,7 +92,7 @@ static void make_areas(void) {
     first_area = new_area(sizeof(uint32_t));
     second_area = new_area(sizeof(uint32_t));
     pointer_area = new_area(sizeof(uint8_t *));
-    for (int i = 0; i < 7; i++) column_areas[i] = new_area(sizeof before.record.commit_waits);
+    for (int i = 0; i < 8; i++) part_areas[i] = new_area(sizeof before.record.commit_waits);
     house = place(&house_area, sizeof *house, 0);
 }
 
@@ -165,61 +165,58 @@ static uint32_t by_header(const struct results *to) {
 }
 
 static struct given figure(struct wellcherry_figure_given given) {
-    copy.numbers = given.numbers;
     return (struct given){given.refusal, given.figure, 0};
 }
 
-static struct given by_columns(void) {
+/* clang-format off */
+#define RECORD_APART(c) \
+    (c)->head, (c)->stage, (c)->number, (c)->snapshot, (c)->request, (c)->commit, (c)->request_waits, (c)->commit_waits
+/* clang-format on */
+
+static struct given by_parts(void) {
     struct wellcherry_begin_given begun;
     struct wellcherry_read_given read;
     struct wellcherry_advance_given advanced;
-    struct wellcherry_free_given left;
     struct apart *const c = &copy;
     switch (call.kind) {
     case SET_UP:
-        return figure(wellcherry_call_set_up(WELLCHERRY_COLUMNS(*c), WELLCHERRY_BUFFERS(c), call.first, call.limit));
+        return figure(wellcherry_call_set_up(RECORD_APART(c), WELLCHERRY_BUFFERS(c), call.first, call.limit));
     case BEGIN:
-        begun = wellcherry_call_begin(c->numbers, WELLCHERRY_COLUMNS(*c), WELLCHERRY_BUFFERS(c), call.client);
-        c->numbers = begun.numbers;
+        begun = wellcherry_call_begin(RECORD_APART(c), WELLCHERRY_BUFFERS(c), call.client);
         return (struct given){begun.refusal, begun.number, begun.snapshot};
     case READ:
-        read = wellcherry_call_read(c->numbers, c->stage, c->number, c->snapshot, WELLCHERRY_BUFFERS(c), call.client,
+        read = wellcherry_call_read(c->head, c->stage, c->number, c->snapshot, WELLCHERRY_BUFFERS(c), call.client,
                                     call.cell);
         return (struct given){read.refusal, read.found, (uint32_t)read.row};
     case WRITE:
-        return figure(wellcherry_call_write(c->numbers, c->stage, c->number, WELLCHERRY_BUFFERS(c), call.client,
+        return figure(wellcherry_call_write(c->head, c->stage, c->number, WELLCHERRY_BUFFERS(c), call.client,
                                             call.cell, call.value, call.value_bytes));
     case ADVANCE:
-        advanced = wellcherry_call_advance(c->numbers, WELLCHERRY_COLUMNS(*c), WELLCHERRY_BUFFERS(c), call.client);
-        c->numbers = advanced.numbers;
+        advanced = wellcherry_call_advance(RECORD_APART(c), WELLCHERRY_BUFFERS(c), call.client);
         return (struct given){advanced.refusal, advanced.progress, advanced.number};
-    case ABANDON:
-        return figure(
-            wellcherry_call_abandon(c->numbers, WELLCHERRY_COLUMNS(*c), WELLCHERRY_BUFFERS(c), call.client));
+    case ABANDON: return figure(wellcherry_call_abandon(RECORD_APART(c), WELLCHERRY_BUFFERS(c), call.client));
     case TRIM:
-        return figure(wellcherry_call_trim(c->numbers, c->stage, c->number, c->snapshot, WELLCHERRY_BUFFERS(c)));
-    default:
-        left = wellcherry_call_free(c->numbers, c->stage, WELLCHERRY_BUFFERS(c));
-        return (struct given){left.refusal, left.figure, 0};
+        return figure(wellcherry_call_trim(c->head, c->stage, c->number, c->snapshot, WELLCHERRY_BUFFERS(c)));
+    default: return figure(wellcherry_call_free(c->head, c->stage, WELLCHERRY_BUFFERS(c)));
     }
 }
 
-/* a column in a place of its own, against either page */
-static void *column(int which, const void *from, size_t bytes) {
-    return memcpy(place(&column_areas[which], bytes, one_in(2)), from, bytes);
+/* a part of the record in a place of its own, against either page */
+static void *part(int which, const void *from, size_t bytes) {
+    return memcpy(place(&part_areas[which], bytes, one_in(2)), from, bytes);
 }
 
 /* the house in other places */
 static void copy_house(void) {
     const struct wellcherry_record *const r = &house->record;
-    copy.numbers = r->numbers;
-    copy.stage = column(0, r->stage, sizeof r->stage);
-    copy.number = column(1, r->number, sizeof r->number);
-    copy.snapshot = column(2, r->snapshot, sizeof r->snapshot);
-    copy.request = column(3, r->request, sizeof r->request);
-    copy.commit = column(4, r->commit, sizeof r->commit);
-    copy.request_waits = column(5, r->request_waits, sizeof r->request_waits);
-    copy.commit_waits = column(6, r->commit_waits, sizeof r->commit_waits);
+    copy.head = part(7, &r->head, sizeof r->head);
+    copy.stage = part(0, r->stage, sizeof r->stage);
+    copy.number = part(1, r->number, sizeof r->number);
+    copy.snapshot = part(2, r->snapshot, sizeof r->snapshot);
+    copy.request = part(3, r->request, sizeof r->request);
+    copy.commit = part(4, r->commit, sizeof r->commit);
+    copy.request_waits = part(5, r->request_waits, sizeof r->request_waits);
+    copy.commit_waits = part(6, r->commit_waits, sizeof r->commit_waits);
     copy.data_bytes = house->data_bytes;
     copy.data = buffer(&data_copy_area, copy.data_bytes);
     copy_bytes(copy.data, house->data, copy.data_bytes);
@@ -244,8 +241,8 @@ static int same_clients(const struct wellcherry_record *one, const struct wellch
 /* the house, after a call, against what it was: the parts that the call may not change */
 static void check_kept(uint32_t may_change) {
     const struct wellcherry_record *const r = &house->record;
-    if (!(may_change & NUMBERS) && !same_bytes(&r->numbers, &before.record.numbers, sizeof r->numbers))
-        fault("the record's numbers changed");
+    if (!(may_change & HEAD) && !same_bytes(&r->head, &before.record.head, sizeof r->head))
+        fault("the head of the record changed");
     if (!(may_change & CLIENTS) && !same_clients(r, &before.record)) fault("the record's clients changed");
     if (!(may_change & DATA) && !same_bytes(house->data, data_before, before.data_bytes))
         fault("the data buffer changed");
@@ -260,7 +257,7 @@ static void check_kept(uint32_t may_change) {
 /* the house against its copy, on which the same call was made */
 static void check_same(void) {
     const struct wellcherry_record *const r = &house->record;
-    if (!same_bytes(&r->numbers, &copy.numbers, sizeof r->numbers) ||
+    if (!same_bytes(&r->head, copy.head, sizeof r->head) ||
         !same_bytes(r->stage, copy.stage, sizeof r->stage) || !same_bytes(r->number, copy.number, sizeof r->number) ||
         !same_bytes(r->snapshot, copy.snapshot, sizeof r->snapshot) ||
         !same_bytes(r->request, copy.request, sizeof r->request) ||
@@ -283,9 +280,9 @@ static int set_up_agrees(const struct given *given) {
     const uint32_t rows = (uint32_t)(house->data_bytes / WELLCHERRY_DATA_ROW);
     struct wellcherry_record fresh;
     memset(&fresh, 0, sizeof fresh);
-    fresh.numbers.rows = rows;
-    fresh.numbers.limit = call.limit ? call.limit : 8;
-    fresh.numbers.issued = call.first - 1;
+    fresh.head.rows = rows;
+    fresh.head.limit = call.limit ? call.limit : 8;
+    fresh.head.issued = call.first - 1;
     return given->first == rows && same_bytes(&house->record, &fresh, sizeof fresh) &&
            all_zero(house->data, house->data_bytes) && all_zero(house->committed, house->committed_bytes);
 }
@@ -293,8 +290,8 @@ static int set_up_agrees(const struct given *given) {
 static int begin_agrees(const struct given *given) {
     const struct wellcherry_record *const r = &house->record;
     const uint32_t k = call.client;
-    return given->first == before.record.numbers.issued + 1 && given->first == r->numbers.issued &&
-           given->first == r->number[k] && given->second == r->numbers.last && given->second == r->snapshot[k] &&
+    return given->first == before.record.head.issued + 1 && given->first == r->head.issued &&
+           given->first == r->number[k] && given->second == r->head.last && given->second == r->snapshot[k] &&
            !(r->stage[k] | r->request[k] | r->commit[k]) && !(r->request_waits[k] | r->commit_waits[k]);
 }
 
@@ -302,7 +299,7 @@ static int begin_agrees(const struct given *given) {
 static int read_agrees(const struct given *given) {
     const uint8_t *row;
     if (!given->first) return given->second == 0;
-    if (given->first != 1 || given->second >= house->record.numbers.used) return 0;
+    if (given->first != 1 || given->second >= house->record.head.used) return 0;
     row = house->data + (size_t)given->second * 24;
     return call.cell == (uint32_t)(row[4] | row[5] << 8);
 }
@@ -325,7 +322,7 @@ static int advance_agrees(const struct given *given) {
 
 /* whether what an answered call gives agrees with what it leaves */
 static int agrees(const struct given *given) {
-    const struct wellcherry_numbers *const now = &house->record.numbers, *const then = &before.record.numbers;
+    const struct wellcherry_head *const now = &house->record.head, *const then = &before.record.head;
     switch (call.kind) {
     case SET_UP: return set_up_agrees(given);
     case BEGIN: return begin_agrees(given);
@@ -343,12 +340,12 @@ static void check(const struct given *given, int other_lengths) {
     if (refusal >= REFUSALS || !(calls_known[call.kind].refusals >> refusal & 1))
         fault("a refusal that is not in the call's list");
     if (call.kind != SET_UP && !damaged &&
-        (refusal == WELLCHERRY_UNFIT) != (other_lengths || before.record.numbers.rows == 0))
+        (refusal == WELLCHERRY_UNFIT) != (other_lengths || before.record.head.rows == 0))
         fault("unfit or not, against what was lent");
     if (refusal && (given->first || given->second)) fault("refused, and gives something");
     if (refusal == WELLCHERRY_BAD_SET_UP) {
         if (!all_zero(&house->record, sizeof house->record)) fault("refused, and the record is not zero");
-        check_kept(NUMBERS | CLIENTS);
+        check_kept(HEAD | CLIENTS);
     } else {
         check_kept(refusal ? 0 : calls_known[call.kind].changes);
     }
@@ -403,7 +400,7 @@ static void make_call(int other_lengths) {
     to.value = exact(&pointer_area, sizeof *to.value);
     remember();
     copy_house();
-    same = by_columns();
+    same = by_parts();
     given = collect(by_header(&to), &to, same);
     if (given.refusal != same.refusal || given.first != same.first || given.second != same.second)
         fault("the same call gives something else on a copy");
@@ -447,7 +444,7 @@ static enum kind choose_kind(uint32_t client) {
     const struct wellcherry_record *const r = &house->record;
     if (client >= WELLCHERRY_CLIENTS || one_in(4)) return (enum kind)(BEGIN + below(KINDS - BEGIN));
     if (r->number[client] == 0) return BEGIN;
-    if (r->numbers.used == r->numbers.rows && one_in(8)) return TRIM;
+    if (r->head.used == r->head.rows && one_in(8)) return TRIM;
     return r->stage[client] == 0 && !one_in(3) ? WRITE : ADVANCE;
 }
 
@@ -470,9 +467,9 @@ static void damage_record(void) {
     }
     if (one_in(3)) return;
     /* most often it is fit all the same */
-    r->numbers.rows = (uint32_t)(house->data_bytes / WELLCHERRY_DATA_ROW);
-    r->numbers.used = below(r->numbers.rows + 1);
-    r->numbers.entries = below(r->numbers.rows + 1);
+    r->head.rows = (uint32_t)(house->data_bytes / WELLCHERRY_DATA_ROW);
+    r->head.used = below(r->head.rows + 1);
+    r->head.entries = below(r->head.rows + 1);
     for (int client = 0; client < WELLCHERRY_CLIENTS; client++) r->stage[client] %= 14;
 }
 
@@ -505,7 +502,7 @@ static void one_call(void) {
     if (calls_left == 0) {
         choose_set_up();
         make_call(0);
-        calls_left = below(house->record.numbers.rows ? 2000 : 20);
+        calls_left = below(house->record.head.rows ? 2000 : 20);
         return;
     }
     calls_left--;

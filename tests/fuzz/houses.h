@@ -90,12 +90,12 @@ static inline void make_up(struct wellcherry *house) {
     if (rows == 0 || house->committed_bytes < WELLCHERRY_COMMITTED_BYTES(rows)) return;
     make_up_rows(house->data, house->committed, rows, one_in(2));
     memset(record, 0, sizeof *record);
-    record->numbers.rows = rows;
-    record->numbers.limit = below(66);
-    record->numbers.issued = rows;
-    record->numbers.used = one_in(2) ? rows : below(rows + 1);
-    record->numbers.entries = one_in(2) ? rows : below(rows + 1);
-    record->numbers.last = below(2 * rows + 2);
+    record->head.rows = rows;
+    record->head.limit = below(66);
+    record->head.issued = rows;
+    record->head.used = one_in(2) ? rows : below(rows + 1);
+    record->head.entries = one_in(2) ? rows : below(rows + 1);
+    record->head.last = below(2 * rows + 2);
     for (uint32_t client = 0; client < open; client++) {
         record->stage[client] = below(14);
         record->number[client] = below(rows + 1);

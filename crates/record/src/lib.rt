@@ -20,7 +20,6 @@ use spec::Set;
 use spec::Store;
 
 // The numbers of a record. Its arrays by client are lent beside them.
-#[repr(C)]
 pub struct Head {
     pub rows: u32,
     pub limit: u32,

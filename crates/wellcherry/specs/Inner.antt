@@ -2,6 +2,7 @@
 -- Assumes nothing.
 use Prim.Native.Nat.{ℕ}
 use mathlib.Core.List.{List}
+use lib.ListN.{getD}
 use denote.Triple.Both.{Both}
 use Rattle.spec.specs.Image.{Clients, Image}
 use Rattle.spec.specs.Calls.{Outcome}
@@ -9,10 +10,23 @@ use Rattle.spec.specs.Told.{Told, Tells, TellsSetUp}
 use Rattle.record.specs.declared.Head.{Head}
 use Rattle.record.specs.Inner.{Lent, memoryFound, memoryLeft}
 
--- the call has found the numbers h, and left h′ and told t, as its definition f says
-abbrev pub TellsOn : {A : Type 0} → (A → Told) → (Image → Outcome A) → Head → Both Clients Clients → Lent → Lent → Head → Told → Type 0
-TellsOn g f h k d c h′ t = Tells g f (memoryFound h k d c) (memoryLeft h′ k d c) t
+-- the eight numbers of a record, one behind the other
+unfoldable pub headIn : List ℕ → Head
+headIn l = record {
+  rows = getD l 0 0;
+  limit = getD l 1 0;
+  issued = getD l 2 0;
+  requested = getD l 3 0;
+  taken = getD l 4 0;
+  last = getD l 5 0;
+  used = getD l 6 0;
+  entries = getD l 7 0;
+}
 
--- a set-up has left the numbers h′ and told t
-abbrev pub TellsNew : List ℕ → List ℕ → ℕ → ℕ → Both Clients Clients → Lent → Lent → Head → Told → Type 0
-TellsNew d c w l k x y h′ t = TellsSetUp d c w l (memoryLeft h′ k x y) t
+-- the call has told t, and left what its definition f says of what it has found: numbers, columns and buffers
+abbrev pub TellsOn : {A : Type 0} → (A → Told) → (Image → Outcome A) → Lent → Both Clients Clients → Lent → Lent → Told → Type 0
+TellsOn g f n k d c t = Tells g f (memoryFound (headIn (n .entry .now)) k d c) (memoryLeft (headIn (n .exit .now)) k d c) t
+
+-- a set-up has told t
+abbrev pub TellsNew : List ℕ → List ℕ → ℕ → ℕ → Lent → Both Clients Clients → Lent → Lent → Told → Type 0
+TellsNew d c w l n k x y t = TellsSetUp d c w l (memoryLeft (headIn (n .exit .now)) k x y) t

@@ -1,30 +1,30 @@
 // The eight calls for programs in C, in libwellcherry.a; c/wellcherry.h declares them. The record stays where the caller
-// holds it: its arrays by client are lent, a column each, its eight numbers go in and come back by value. A buffer is
-// a pointer and a length. None asks anything of its caller. What each leaves and tells is defined in the crate spec:
-// specs/Told.antt.
+// holds it: its eight numbers are lent, and its arrays by client, a column each. A buffer is a pointer and a length.
+// None asks anything of its caller. What each leaves and tells is defined in the crate spec: specs/Told.antt.
+ghost use mathlib.Core.Path.{_≡_};
 ghost use mathlib.Core.List.{List};
 ghost use Prim.Native.Nat.{ℕ};
 ghost use Rattle.spec.specs.Calls.{abandon, begin, free, read, trim, write};
 ghost use Rattle.spec.specs.Steps.{advance};
 ghost use Rattle.spec.specs.Told.{toldOf, figureTold, beginTold, readTold, advanceTold};
 ghost use Rattle.record.specs.Inner.{columns, unseen};
-ghost use Rattle.wellcherry.specs.Inner.{TellsOn, TellsNew};
+ghost use Rattle.wellcherry.specs.Inner.{headIn, TellsOn, TellsNew};
 use record::Head;
 use spec::CLIENTS;
 use spec::Set;
 
-// What a call hands back: the record's numbers, where it may change them; the refusal's number, or 0; and what the
-// call gives, zeros where it is refused.
+// How many numbers a record has beside its arrays.
+const HEAD: usize = 8;
+
+// What a call hands back: the refusal's number, or 0; then what the call gives, zeros where it is refused.
 #[repr(C)]
 pub struct FigureGiven {
-    pub head: Head,
     pub refusal: u32,
     pub figure: u32,
 }
 
 #[repr(C)]
 pub struct BeginGiven {
-    pub head: Head,
     pub refusal: u32,
     pub number: u32,
     pub snapshot: u32,
@@ -41,21 +41,49 @@ pub struct ReadGiven {
 // 1 Stage, 2 Waiting, 3 Conflict, 4 Done, and its number.
 #[repr(C)]
 pub struct AdvanceGiven {
-    pub head: Head,
     pub refusal: u32,
     pub progress: u32,
     pub number: u32,
 }
 
-#[repr(C)]
-pub struct FreeGiven {
-    pub refusal: u32,
-    pub figure: u32,
+// ---- the numbers of a record, where the caller holds them
+
+fn head_in(head: &[u32; HEAD]) -> Head
+    ensures { λ r. ⌜ r ≡ headIn (now (head .entry)) ⌝ }
+{
+    Head {
+        rows: head[0],
+        limit: head[1],
+        issued: head[2],
+        requested: head[3],
+        taken: head[4],
+        last: head[5],
+        used: head[6],
+        entries: head[7],
+    }
 }
+
+fn put_head(head: &mut [u32; HEAD], h: Head)
+    ensures { λ _. ⌜ headIn (now (head .exit)) ≡ h ⌝ }
+{
+    *head = [
+        h.rows,
+        h.limit,
+        h.issued,
+        h.requested,
+        h.taken,
+        h.last,
+        h.used,
+        h.entries,
+    ];
+}
+
+// ---- the calls
 
 // Set-up: a new record in the place of whatever the columns hold.
 #[no_mangle]
 pub extern "C" fn wellcherry_call_set_up(
+    head: &mut [u32; HEAD],
     stage: &mut [u32; CLIENTS],
     number: &mut [u32; CLIENTS],
     snapshot: &mut [u32; CLIENTS],
@@ -68,12 +96,12 @@ pub extern "C" fn wellcherry_call_set_up(
     first: u32,
     limit: u32,
 ) -> FigureGiven
-    ensures { λ r. ⌜ TellsNew (now (rows .entry)) (now (commits .entry)) first limit
+    ensures { λ r. ⌜ TellsNew (now (rows .entry)) (now (commits .entry)) first limit head
         (columns stage number snapshot request commit requestWaits commitWaits) rows commits
-        (r .head) (toldOf (r .refusal) (r .figure) 0) ⌝ }
+        (toldOf (r .refusal) (r .figure) 0) ⌝ }
 {
     let turn = starts::set_up(rows, commits, first, limit);
-    let head = record::spread(
+    let made = record::spread(
         turn.store,
         stage,
         number,
@@ -83,10 +111,10 @@ pub extern "C" fn wellcherry_call_set_up(
         requestWaits,
         commitWaits,
     );
+    put_head(head, made);
     let answer = turn.answer;
     let told = telling::figure_told(answer);
     FigureGiven {
-        head,
         refusal: told.refusal,
         figure: told.figure,
     }
@@ -95,7 +123,7 @@ pub extern "C" fn wellcherry_call_set_up(
 // Begin: the transaction's number and its snapshot.
 #[no_mangle]
 pub extern "C" fn wellcherry_call_begin(
-    h: Head,
+    head: &mut [u32; HEAD],
     stage: &mut [u32; CLIENTS],
     number: &mut [u32; CLIENTS],
     snapshot: &mut [u32; CLIENTS],
@@ -107,12 +135,12 @@ pub extern "C" fn wellcherry_call_begin(
     commits: &[u8],
     client: u32,
 ) -> BeginGiven
-    ensures { λ r. ⌜ TellsOn beginTold (begin client) h
+    ensures { λ r. ⌜ TellsOn beginTold (begin client) head
         (columns stage number snapshot request commit requestWaits commitWaits) rows commits
-        (r .head) (toldOf (r .refusal) (r .number) (r .snapshot)) ⌝ }
+        (toldOf (r .refusal) (r .number) (r .snapshot)) ⌝ }
 {
     let done = begins::begin(
-        h,
+        head_in(head),
         stage,
         number,
         snapshot,
@@ -124,11 +152,11 @@ pub extern "C" fn wellcherry_call_begin(
         commits,
         client,
     );
-    let head = done.head;
+    let next = done.head;
+    put_head(head, next);
     let answer = done.answer;
     let told = telling::begin_told(answer);
     BeginGiven {
-        head,
         refusal: told.refusal,
         number: told.first,
         snapshot: told.second,
@@ -138,7 +166,7 @@ pub extern "C" fn wellcherry_call_begin(
 // Read: where the value stands. It is lent what it looks at, and changes nothing.
 #[no_mangle]
 pub extern "C" fn wellcherry_call_read(
-    h: Head,
+    head: &[u32; HEAD],
     stage: &[u32; CLIENTS],
     number: &[u32; CLIENTS],
     snapshot: &[u32; CLIENTS],
@@ -147,11 +175,20 @@ pub extern "C" fn wellcherry_call_read(
     client: u32,
     cell: u32,
 ) -> ReadGiven
-    ensures { λ r. ⌜ ((q m b w : List ℕ) → TellsOn readTold (read client cell) h
+    ensures { λ r. ⌜ ((q m b w : List ℕ) → TellsOn readTold (read client cell) head
         (columns stage number snapshot (unseen q) (unseen m) (unseen b) (unseen w)) rows commits
-        h (toldOf (r .refusal) (r .found) (r .row))) ⌝ }
+        (toldOf (r .refusal) (r .found) (r .row))) ⌝ }
 {
-    let answer = reads::read(h, stage, number, snapshot, rows, commits, client, cell);
+    let answer = reads::read(
+        head_in(head),
+        stage,
+        number,
+        snapshot,
+        rows,
+        commits,
+        client,
+        cell,
+    );
     let told = telling::read_told(answer);
     ReadGiven {
         refusal: told.refusal,
@@ -163,7 +200,7 @@ pub extern "C" fn wellcherry_call_read(
 // Write: the free figure.
 #[no_mangle]
 pub extern "C" fn wellcherry_call_write(
-    h: Head,
+    head: &mut [u32; HEAD],
     stage: &[u32; CLIENTS],
     number: &[u32; CLIENTS],
     rows: &mut [u8],
@@ -172,16 +209,25 @@ pub extern "C" fn wellcherry_call_write(
     cell: u32,
     value: &[u8],
 ) -> FigureGiven
-    ensures { λ r. ⌜ ((s q m b w : List ℕ) → TellsOn figureTold (write client cell (now (value .entry))) h
+    ensures { λ r. ⌜ ((s q m b w : List ℕ) → TellsOn figureTold (write client cell (now (value .entry))) head
         (columns stage number (unseen s) (unseen q) (unseen m) (unseen b) (unseen w)) rows commits
-        (r .head) (toldOf (r .refusal) (r .figure) 0)) ⌝ }
+        (toldOf (r .refusal) (r .figure) 0)) ⌝ }
 {
-    let done = writes::write(h, stage, number, rows, commits, client, cell, value);
-    let head = done.head;
+    let done = writes::write(
+        head_in(head),
+        stage,
+        number,
+        rows,
+        commits,
+        client,
+        cell,
+        value,
+    );
+    let next = done.head;
+    put_head(head, next);
     let answer = done.answer;
     let told = telling::figure_told(answer);
     FigureGiven {
-        head,
         refusal: told.refusal,
         figure: told.figure,
     }
@@ -190,7 +236,7 @@ pub extern "C" fn wellcherry_call_write(
 // Advance: one step of the transaction's commit.
 #[no_mangle]
 pub extern "C" fn wellcherry_call_advance(
-    h: Head,
+    head: &mut [u32; HEAD],
     stage: &mut [u32; CLIENTS],
     number: &mut [u32; CLIENTS],
     snapshot: &mut [u32; CLIENTS],
@@ -202,12 +248,12 @@ pub extern "C" fn wellcherry_call_advance(
     commits: &mut [u8],
     client: u32,
 ) -> AdvanceGiven
-    ensures { λ r. ⌜ TellsOn advanceTold (advance client) h
+    ensures { λ r. ⌜ TellsOn advanceTold (advance client) head
         (columns stage number snapshot request commit requestWaits commitWaits) rows commits
-        (r .head) (toldOf (r .refusal) (r .progress) (r .number)) ⌝ }
+        (toldOf (r .refusal) (r .progress) (r .number)) ⌝ }
 {
     let done = advances::advance(
-        h,
+        head_in(head),
         stage,
         number,
         snapshot,
@@ -219,11 +265,11 @@ pub extern "C" fn wellcherry_call_advance(
         commits,
         client,
     );
-    let head = done.head;
+    let next = done.head;
+    put_head(head, next);
     let answer = done.answer;
     let told = telling::advance_told(answer);
     AdvanceGiven {
-        head,
         refusal: told.refusal,
         progress: told.first,
         number: told.second,
@@ -233,7 +279,7 @@ pub extern "C" fn wellcherry_call_advance(
 // Abandon: the free figure.
 #[no_mangle]
 pub extern "C" fn wellcherry_call_abandon(
-    h: Head,
+    head: &mut [u32; HEAD],
     stage: &mut [u32; CLIENTS],
     number: &mut [u32; CLIENTS],
     snapshot: &mut [u32; CLIENTS],
@@ -245,12 +291,12 @@ pub extern "C" fn wellcherry_call_abandon(
     commits: &[u8],
     client: u32,
 ) -> FigureGiven
-    ensures { λ r. ⌜ TellsOn figureTold (abandon client) h
+    ensures { λ r. ⌜ TellsOn figureTold (abandon client) head
         (columns stage number snapshot request commit requestWaits commitWaits) rows commits
-        (r .head) (toldOf (r .refusal) (r .figure) 0) ⌝ }
+        (toldOf (r .refusal) (r .figure) 0) ⌝ }
 {
     let done = abandons::abandon(
-        h,
+        head_in(head),
         stage,
         number,
         snapshot,
@@ -262,11 +308,11 @@ pub extern "C" fn wellcherry_call_abandon(
         commits,
         client,
     );
-    let head = done.head;
+    let next = done.head;
+    put_head(head, next);
     let answer = done.answer;
     let told = telling::figure_told(answer);
     FigureGiven {
-        head,
         refusal: told.refusal,
         figure: told.figure,
     }
@@ -275,23 +321,23 @@ pub extern "C" fn wellcherry_call_abandon(
 // Trim: how many data rows went.
 #[no_mangle]
 pub extern "C" fn wellcherry_call_trim(
-    h: Head,
+    head: &mut [u32; HEAD],
     stage: &[u32; CLIENTS],
     number: &[u32; CLIENTS],
     snapshot: &[u32; CLIENTS],
     rows: &mut [u8],
     commits: &mut [u8],
 ) -> FigureGiven
-    ensures { λ r. ⌜ ((q m b w : List ℕ) → TellsOn figureTold trim h
+    ensures { λ r. ⌜ ((q m b w : List ℕ) → TellsOn figureTold trim head
         (columns stage number snapshot (unseen q) (unseen m) (unseen b) (unseen w)) rows commits
-        (r .head) (toldOf (r .refusal) (r .figure) 0)) ⌝ }
+        (toldOf (r .refusal) (r .figure) 0)) ⌝ }
 {
-    let done = trims::trim(h, stage, number, snapshot, rows, commits);
-    let head = done.head;
+    let done = trims::trim(head_in(head), stage, number, snapshot, rows, commits);
+    let next = done.head;
+    put_head(head, next);
     let answer = done.answer;
     let told = telling::figure_told(answer);
     FigureGiven {
-        head,
         refusal: told.refusal,
         figure: told.figure,
     }
@@ -300,18 +346,18 @@ pub extern "C" fn wellcherry_call_trim(
 // Free: the free figure. It changes nothing.
 #[no_mangle]
 pub extern "C" fn wellcherry_call_free(
-    h: Head,
+    head: &[u32; HEAD],
     stage: &[u32; CLIENTS],
     rows: &[u8],
     commits: &[u8],
-) -> FreeGiven
-    ensures { λ r. ⌜ ((n s q m b w : List ℕ) → TellsOn figureTold free h
+) -> FigureGiven
+    ensures { λ r. ⌜ ((n s q m b w : List ℕ) → TellsOn figureTold free head
         (columns stage (unseen n) (unseen s) (unseen q) (unseen m) (unseen b) (unseen w)) rows commits
-        h (toldOf (r .refusal) (r .figure) 0)) ⌝ }
+        (toldOf (r .refusal) (r .figure) 0)) ⌝ }
 {
-    let answer = reads::free(h, stage, rows, commits);
+    let answer = reads::free(head_in(head), stage, rows, commits);
     let told = telling::figure_told(answer);
-    FreeGiven {
+    FigureGiven {
         refusal: told.refusal,
         figure: told.figure,
     }

@@ -2,7 +2,7 @@
 
 use crate::house::House;
 use baseline::{Progress as ByHand, Refusal, Versions};
-use wellcherry::{Answer, Numbers, Progress, Record, DATA_ROW, VALUE_AT};
+use wellcherry::{Answer, Head, Progress, Record, DATA_ROW, VALUE_AT};
 
 #[derive(Clone, Debug)]
 pub enum Call {
@@ -120,7 +120,7 @@ fn told(step: ByHand) -> Progress {
 }
 
 fn to_hand(record: &Record) -> baseline::Record {
-    let n = &record.numbers;
+    let n = &record.head;
     baseline::Record {
         rows: n.rows,
         limit: n.limit,
@@ -143,7 +143,7 @@ fn to_hand(record: &Record) -> baseline::Record {
 
 fn from_hand(record: &baseline::Record) -> Record {
     Record {
-        numbers: Numbers {
+        head: Head {
             rows: record.rows,
             limit: record.limit,
             issued: record.w,

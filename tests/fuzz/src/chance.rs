@@ -1,4 +1,4 @@
-//! Numbers by chance: the same from the same seed.
+//! Head by chance: the same from the same seed.
 
 #[path = "../../../bench/drivers/src/rng.rs"]
 mod rng;

@@ -66,7 +66,7 @@ impl House {
     }
 
     fn damage_numbers(&mut self, chance: &mut Chance) {
-        let n = &mut self.record.numbers;
+        let n = &mut self.record.head;
         let fields = [
             &mut n.rows,
             &mut n.limit,
@@ -128,8 +128,8 @@ impl House {
     /// Nobody is left who holds up a trim.
     fn close_all(&mut self, chance: &mut Chance) {
         self.record.number.fill(0);
-        self.record.numbers.last = chance.below(2 * self.rows() + 2);
-        self.record.numbers.issued = chance.below(100);
+        self.record.head.last = chance.below(2 * self.rows() + 2);
+        self.record.head.issued = chance.below(100);
     }
 
     /// Lengths, numbers and stages that are fit.
@@ -137,7 +137,7 @@ impl House {
         let rows = self.rows().clamp(1, 1024);
         self.data.resize(rows as usize * DATA_ROW, 7);
         self.committed.resize(rows as usize * COMMITTED_ROW, 7);
-        let n = &mut self.record.numbers;
+        let n = &mut self.record.head;
         n.rows = rows;
         for count in [&mut n.used, &mut n.entries] {
             if *count > rows || chance.one_in(40) {

@@ -74,7 +74,7 @@ impl Scene {
             5..=7 => Call::Read(client, cell),
             8 => Call::Write(client, cell, vec![1; chance.below(33) as usize]),
             _ if record.number[place] == 0 => Call::Begin(client),
-            _ if record.numbers.used == record.numbers.rows && chance.one_in(8) => Call::Trim,
+            _ if record.head.used == record.head.rows && chance.one_in(8) => Call::Trim,
             _ if record.stage[place] == 0 && !chance.one_in(3) => {
                 Call::Write(client, cell, chance.value().into())
             }

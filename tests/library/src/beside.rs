@@ -10,12 +10,12 @@ use model::forms::{answer_text, form_text, lines, Form};
 use model::session::Session;
 use model::store::{QueueRow, Store};
 use std::collections::BTreeSet;
-use wellcherry::{Numbers, Record, CLIENTS};
+use wellcherry::{Head, Record, CLIENTS};
 
 /// The record that the model's store stands for.
 fn record_of(store: &Store) -> Record {
     let mut record = Record {
-        numbers: Numbers {
+        head: Head {
             rows: store.rows as u32,
             limit: store.limit,
             issued: store.w,
@@ -64,8 +64,8 @@ pub fn difference(ours: &Desk, due: &Desk) -> Option<String> {
 }
 
 fn different_word(ours: &Record, due: &Record) -> Option<String> {
-    if ours.numbers != due.numbers {
-        return Some(format!("the numbers: {:?}, not {:?}", ours.numbers, due.numbers));
+    if ours.head != due.head {
+        return Some(format!("the head: {:?}, not {:?}", ours.head, due.head));
     }
     let k = (0..CLIENTS).find(|k| columns(ours, *k) != columns(due, *k))?;
     let (ours, due) = (columns(ours, k), columns(due, k));

@@ -5,7 +5,7 @@
 use crate::grammar;
 use model::calls::{Answer, Call, Refusal};
 use model::forms::{answer_text, hex, Form, Put, Show, LINE_REFUSED};
-use wellcherry::{Numbers, Progress, Record, CLIENTS, COMMITTED_ROW, DATA_ROW};
+use wellcherry::{Head, Progress, Record, CLIENTS, COMMITTED_ROW, DATA_ROW};
 
 /// No store has more rows.
 const MOST_ROWS: usize = 1_024;
@@ -14,7 +14,7 @@ const OLD: u32 = 0xa5a5_a5a5;
 
 /// A record of no set-up, with no zero in it.
 pub const OLD_RECORD: Record = Record {
-    numbers: Numbers {
+    head: Head {
         rows: OLD,
         limit: OLD,
         issued: OLD,
@@ -177,17 +177,17 @@ fn append(buffer: &mut [u8], used: &mut u32, row: &[u8]) -> bool {
 impl Desk {
     /// Puts something into the store by hand, if there is room for it.
     fn put(&mut self, put: &Put) -> bool {
-        let numbers = &mut self.record.numbers;
+        let head = &mut self.record.head;
         match put {
             Put::Data { tag, cell, value } => {
-                append(&mut self.data, &mut numbers.used, &data_row(*tag, *cell, value))
+                append(&mut self.data, &mut head.used, &data_row(*tag, *cell, value))
             }
             Put::Committed { commit, tag } => {
-                append(&mut self.committed, &mut numbers.entries, &committed_row(*commit, *tag))
+                append(&mut self.committed, &mut head.entries, &committed_row(*commit, *tag))
             }
-            Put::Last(_) if numbers.rows == 0 => false,
+            Put::Last(_) if head.rows == 0 => false,
             Put::Last(commit) => {
-                numbers.last = *commit;
+                head.last = *commit;
                 true
             }
             Put::Version { .. } => not_landed(),
@@ -213,7 +213,7 @@ impl Desk {
                 self.open().map(told).collect()
             }
             Show::Data => {
-                let rows = self.data.chunks(DATA_ROW).take(house.numbers.used as usize);
+                let rows = self.data.chunks(DATA_ROW).take(house.head.used as usize);
                 let told = |row: &[u8]| {
                     format!(" ({} {} {})", number(&row[..4]), number(&row[4..6]), hex(&row[8..]))
                 };
@@ -222,7 +222,7 @@ impl Desk {
             Show::Committed => {
                 let rows = self.committed.chunks(COMMITTED_ROW);
                 let told = |row: &[u8]| format!(" ({} {})", number(&row[..4]), number(&row[4..]));
-                rows.take(house.numbers.entries as usize).map(told).collect()
+                rows.take(house.head.entries as usize).map(told).collect()
             }
             Show::Counts | Show::Versions | Show::Names => not_landed(),
         };
@@ -230,7 +230,7 @@ impl Desk {
     }
 
     fn figures(&self) -> [(&'static str, u32); 9] {
-        let n = &self.record.numbers;
+        let n = &self.record.head;
         let low = self.open().map(|client| self.record.snapshot[client]).min().unwrap_or(n.last);
         [
             ("rows", n.rows),

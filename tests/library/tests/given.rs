@@ -1,9 +1,9 @@
-//! What the exported functions hand back where they refuse: the number of the refusal, the
-//! record's numbers as they were, and zeros for all that they give.
+//! What the exported functions hand back where they refuse: the number of the refusal, and zeros
+//! for all that they give.
 
 use library::desk::{old_bytes, OLD_RECORD};
 use wellcherry::raw::{self, AdvanceGiven, BeginGiven, FigureGiven};
-use wellcherry::{Numbers, Record, COMMITTED_ROW, DATA_ROW};
+use wellcherry::{Record, COMMITTED_ROW, DATA_ROW};
 
 const ROWS: usize = 2;
 
@@ -15,7 +15,7 @@ macro_rules! given {
         data.truncate($length);
         unsafe {
             raw::$call(
-                record.numbers,
+                &mut record.head,
                 $(record.$column.as_mut_ptr(),)+
                 data.as_mut_ptr(),
                 data.len(),
@@ -27,16 +27,16 @@ macro_rules! given {
     }};
 }
 
-fn figure(given: FigureGiven) -> (Numbers, u32, [u32; 2]) {
-    (given.numbers, given.refusal, [given.figure, 0])
+fn figure(given: FigureGiven) -> (u32, [u32; 2]) {
+    (given.refusal, [given.figure, 0])
 }
 
-fn begun(given: BeginGiven) -> (Numbers, u32, [u32; 2]) {
-    (given.numbers, given.refusal, [given.number, given.snapshot])
+fn begun(given: BeginGiven) -> (u32, [u32; 2]) {
+    (given.refusal, [given.number, given.snapshot])
 }
 
-fn advanced(given: AdvanceGiven) -> (Numbers, u32, [u32; 2]) {
-    (given.numbers, given.refusal, [given.progress, given.number])
+fn advanced(given: AdvanceGiven) -> (u32, [u32; 2]) {
+    (given.refusal, [given.progress, given.number])
 }
 
 /// A store with client 0 at work on cell 5 and no other, and its buffers.
@@ -50,16 +50,15 @@ fn house() -> (Record, Vec<u8>, Vec<u8>) {
 }
 
 /// What each call hands back: trim, free, begin, then those that need an open client.
-fn all_given(client: u32, length: usize) -> [(Numbers, u32, [u32; 2]); 7] {
-    let (numbers, value) = (house().0.numbers, [1; 16]);
+fn all_given(client: u32, length: usize) -> [(u32, [u32; 2]); 7] {
+    let value = [1; 16];
     let read = given!(wellcherry_call_read [stage number snapshot] length client, 5);
-    let free = given!(wellcherry_call_free [stage] length);
     [
         figure(given!(wellcherry_call_trim [stage number snapshot] length)),
-        (numbers, free.refusal, [free.figure, 0]),
+        figure(given!(wellcherry_call_free [stage] length)),
         begun(given!(wellcherry_call_begin
             [stage number snapshot request commit request_waits commit_waits] length client)),
-        (numbers, read.refusal, [read.found, read.row as u32]),
+        (read.refusal, [read.found, read.row as u32]),
         figure(given!(wellcherry_call_write
             [stage number] length client, 5, value.as_ptr(), value.len())),
         advanced(given!(wellcherry_call_advance
@@ -71,7 +70,7 @@ fn all_given(client: u32, length: usize) -> [(Numbers, u32, [u32; 2]); 7] {
 
 #[test]
 fn refused_calls_hand_back_zeros() {
-    let refused = |number| (house().0.numbers, number, [0, 0]);
+    let refused = |number| (number, [0, 0]);
     let right = ROWS * DATA_ROW;
     assert_eq!(all_given(0, right - 1), [refused(2); 7]);
     assert_eq!(all_given(64, right)[2..], [refused(3); 5]);
@@ -79,12 +78,13 @@ fn refused_calls_hand_back_zeros() {
     assert_eq!(all_given(1, right)[3..], [refused(6); 4]);
 }
 
-/// A refused set-up hands back numbers of zeros too.
+/// A refused set-up too, and its record is all zeros.
 #[test]
 fn a_refused_set_up() {
     let (mut record, mut data, mut committed) = house();
     let given = unsafe {
         raw::wellcherry_call_set_up(
+            &mut record.head,
             record.stage.as_mut_ptr(),
             record.number.as_mut_ptr(),
             record.snapshot.as_mut_ptr(),
@@ -100,5 +100,6 @@ fn a_refused_set_up() {
             0,
         )
     };
-    assert_eq!(figure(given), (Record::NONE.numbers, 1, [0, 0]));
+    assert_eq!(figure(given), (1, [0, 0]));
+    assert_eq!(record, Record::NONE);
 }

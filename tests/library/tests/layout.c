@@ -9,18 +9,18 @@
 #define NUMBER(name) printf(#name " %lu\n", (unsigned long)(name))
 
 int main(void) {
-    WHOLE(wellcherry_numbers);
-    FIELD(wellcherry_numbers, rows);
-    FIELD(wellcherry_numbers, limit);
-    FIELD(wellcherry_numbers, issued);
-    FIELD(wellcherry_numbers, requested);
-    FIELD(wellcherry_numbers, taken);
-    FIELD(wellcherry_numbers, last);
-    FIELD(wellcherry_numbers, used);
-    FIELD(wellcherry_numbers, entries);
+    WHOLE(wellcherry_head);
+    FIELD(wellcherry_head, rows);
+    FIELD(wellcherry_head, limit);
+    FIELD(wellcherry_head, issued);
+    FIELD(wellcherry_head, requested);
+    FIELD(wellcherry_head, taken);
+    FIELD(wellcherry_head, last);
+    FIELD(wellcherry_head, used);
+    FIELD(wellcherry_head, entries);
 
     WHOLE(wellcherry_record);
-    FIELD(wellcherry_record, numbers);
+    FIELD(wellcherry_record, head);
     FIELD(wellcherry_record, stage);
     FIELD(wellcherry_record, number);
     FIELD(wellcherry_record, snapshot);
@@ -30,12 +30,10 @@ int main(void) {
     FIELD(wellcherry_record, commit_waits);
 
     WHOLE(wellcherry_figure_given);
-    FIELD(wellcherry_figure_given, numbers);
     FIELD(wellcherry_figure_given, refusal);
     FIELD(wellcherry_figure_given, figure);
 
     WHOLE(wellcherry_begin_given);
-    FIELD(wellcherry_begin_given, numbers);
     FIELD(wellcherry_begin_given, refusal);
     FIELD(wellcherry_begin_given, number);
     FIELD(wellcherry_begin_given, snapshot);
@@ -46,14 +44,9 @@ int main(void) {
     FIELD(wellcherry_read_given, row);
 
     WHOLE(wellcherry_advance_given);
-    FIELD(wellcherry_advance_given, numbers);
     FIELD(wellcherry_advance_given, refusal);
     FIELD(wellcherry_advance_given, progress);
     FIELD(wellcherry_advance_given, number);
-
-    WHOLE(wellcherry_free_given);
-    FIELD(wellcherry_free_given, refusal);
-    FIELD(wellcherry_free_given, figure);
 
     NUMBER(WELLCHERRY_CLIENTS);
     NUMBER(WELLCHERRY_VALUE);

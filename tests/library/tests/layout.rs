@@ -6,8 +6,8 @@ use library::desk::{committed_row, data_row, Desk, OLD_RECORD};
 use std::mem::{offset_of, size_of};
 use std::path::Path;
 use std::process::Command;
-use wellcherry::raw::{AdvanceGiven, BeginGiven, FigureGiven, FreeGiven, ReadGiven};
-use wellcherry::{Numbers, Progress, Record, CLIENTS, COMMITTED_ROW, DATA_ROW, VALUE, VALUE_AT};
+use wellcherry::raw::{AdvanceGiven, BeginGiven, FigureGiven, ReadGiven};
+use wellcherry::{Head, Progress, Record, CLIENTS, COMMITTED_ROW, DATA_ROW, VALUE, VALUE_AT};
 
 // ------------------------------------------------------------------- the header and the mirrors
 
@@ -43,15 +43,14 @@ fn mirrors() -> String {
         ("VALUE_AT", VALUE_AT),
     ];
     let parts = [
-        mirror!("wellcherry_numbers", Numbers:
+        mirror!("wellcherry_head", Head:
             rows limit issued requested taken last used entries),
         mirror!("wellcherry_record", Record:
-            numbers stage number snapshot request commit request_waits commit_waits),
-        mirror!("wellcherry_figure_given", FigureGiven: numbers refusal figure),
-        mirror!("wellcherry_begin_given", BeginGiven: numbers refusal number snapshot),
+            head stage number snapshot request commit request_waits commit_waits),
+        mirror!("wellcherry_figure_given", FigureGiven: refusal figure),
+        mirror!("wellcherry_begin_given", BeginGiven: refusal number snapshot),
         mirror!("wellcherry_read_given", ReadGiven: refusal found row),
-        mirror!("wellcherry_advance_given", AdvanceGiven: numbers refusal progress number),
-        mirror!("wellcherry_free_given", FreeGiven: refusal figure),
+        mirror!("wellcherry_advance_given", AdvanceGiven: refusal progress number),
         constants.map(|(name, number)| format!("WELLCHERRY_{name} {number}")).join("\n"),
     ];
     parts.join("\n") + "\n"
@@ -83,7 +82,7 @@ fn different_words(closed: usize) -> Record {
     let mut words = 1_000..;
     let mut next = || words.next().expect("many more");
     let mut record = Record {
-        numbers: Numbers {
+        head: Head {
             rows: 4,
             limit: next(),
             issued: next(),
@@ -112,10 +111,10 @@ fn a_begin_of_each_client() {
         let (data, committed) = (vec![7; 4 * DATA_ROW], vec![7; 4 * COMMITTED_ROW]);
         let mut desk = Desk { record: different_words(k), data, committed };
         let mut due = desk.clone();
-        due.record.numbers.issued += 1;
+        due.record.head.issued += 1;
         due.record.stage[k] = 0;
-        due.record.number[k] = due.record.numbers.issued;
-        due.record.snapshot[k] = due.record.numbers.last;
+        due.record.number[k] = due.record.head.issued;
+        due.record.snapshot[k] = due.record.head.last;
         due.record.request[k] = 0;
         due.record.commit[k] = 0;
         due.record.request_waits[k] = 0;

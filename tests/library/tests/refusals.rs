@@ -116,14 +116,14 @@ fn row_counts_above_the_rows() {
     let desk = busy();
     for count in [ROWS as u32 + 1, 1_024, 1_025, 1 << 16, u32::MAX] {
         let (mut used, mut entries) = (desk.record, desk.record);
-        used.numbers.used = count;
-        entries.numbers.entries = count;
+        used.head.used = count;
+        entries.head.entries = count;
         all_unfit(&format!("used {count}"), &used, &desk.data, &desk.committed);
         all_unfit(&format!("entries {count}"), &entries, &desk.data, &desk.committed);
     }
     let mut full = desk;
-    full.record.numbers.used = ROWS as u32;
-    full.record.numbers.entries = ROWS as u32;
+    full.record.head.used = ROWS as u32;
+    full.record.head.entries = ROWS as u32;
     assert_eq!(full.call(&Call::Free), Answer::Free(0));
 }
 
@@ -135,9 +135,9 @@ fn rows_out_of_range() {
     let wraps = 1 << 29;
     for rows in [0, 1_025, 1_026, 1 << 16, wraps, wraps + ROWS as u32, u32::MAX] {
         let mut record = desk.record;
-        record.numbers.rows = rows;
+        record.head.rows = rows;
         all_unfit(&format!("{rows} rows"), &record, &desk.data, &desk.committed);
-        (record.numbers.used, record.numbers.entries) = (0, 0);
+        (record.head.used, record.head.entries) = (0, 0);
         let made = (rows % wraps).min(1 << 16) as usize;
         let (data, committed) = (old_bytes(made * DATA_ROW), old_bytes(made * COMMITTED_ROW));
         all_unfit(&format!("{rows} rows, buffers for {made}"), &record, &data, &committed);
@@ -180,7 +180,7 @@ fn set_up_as_the_model(data: usize, committed: usize, first: u32, limit: u32) ->
         Err(_) => Desk { record: Record::NONE, ..old },
     };
     assert_eq!(difference(&new, &due), None, "{what}");
-    assert_eq!(answer.unwrap_or(0), due.record.numbers.rows, "{what}");
+    assert_eq!(answer.unwrap_or(0), due.record.head.rows, "{what}");
     model.is_ok()
 }
 

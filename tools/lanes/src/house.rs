@@ -90,13 +90,13 @@ impl House {
 
     /// The number of the last commit.
     pub fn last_commit(&self) -> u32 {
-        self.record.numbers.last
+        self.record.head.last
     }
 
     /// The cells of the data rows that an open client has written.
     pub fn cells(&self, client: u32) -> Vec<u32> {
         let tag = self.record.number[client as usize].to_le_bytes();
-        let used = self.record.numbers.used as usize;
+        let used = self.record.head.used as usize;
         let rows = self.data.chunks_exact(DATA_ROW).take(used).filter(|row| row[..4] == tag);
         rows.map(|row| u32::from(u16::from_le_bytes([row[4], row[5]]))).collect()
     }

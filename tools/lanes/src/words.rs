@@ -22,7 +22,7 @@ pub fn counted(number: usize, thing: &str) -> String {
     format!("{} {thing}{}", grouped(number), if number == 1 { "" } else { "s" })
 }
 
-/// Numbers in order, runs of three or more as "4 to 9"; a long list is cut.
+/// Head in order, runs of three or more as "4 to 9"; a long list is cut.
 pub fn listed(numbers: &[u32]) -> String {
     let mut sorted = numbers.to_vec();
     sorted.sort_unstable();
