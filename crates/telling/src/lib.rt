@@ -114,16 +114,34 @@ pub fn read_told(answer: ReadAnswer) -> Place
     }
 }
 
+// Which of Advance's answers it is, and its number. Apart, each is a step or two for the machine.
+fn kind_of(progress: Progress) -> u32
+    ensures { λ r. ⌜ r ≡ advanceTold progress .first ⌝ }
+{
+    match progress {
+        Progress::Stage(_) => 1,
+        Progress::Waiting(_) => 2,
+        Progress::Conflict(_) => 3,
+        Progress::Done(_) => 4,
+    }
+}
+
+fn number_of(progress: Progress) -> u32
+    ensures { λ r. ⌜ r ≡ advanceTold progress .second ⌝ }
+{
+    match progress {
+        Progress::Stage(n) => n,
+        Progress::Waiting(n) => n,
+        Progress::Conflict(n) => n,
+        Progress::Done(n) => n,
+    }
+}
+
 pub fn advance_told(answer: AdvanceAnswer) -> Numbers
     ensures { λ r. ⌜ toldOf (r .refusal) (r .first) (r .second) ≡ inNumbers advanceTold (advanceOf answer) ⌝ }
 {
     match answer {
-        AdvanceAnswer::Answered(progress) => match progress {
-            Progress::Stage(n) => given(1, n),
-            Progress::Waiting(n) => given(2, n),
-            Progress::Conflict(n) => given(3, n),
-            Progress::Done(n) => given(4, n),
-        },
+        AdvanceAnswer::Answered(progress) => given(kind_of(progress), number_of(progress)),
         AdvanceAnswer::Refused(why) => refused(why),
     }
 }
