@@ -202,14 +202,14 @@ impl Record {
             committed.len(),
             client
         );
-        answered(given.refusal, ())?;
-        Ok(match given.progress {
-            1 => Progress::Stage(given.number),
-            2 => Progress::Waiting(given.number),
-            3 => Progress::Conflict(given.number),
-            4 => Progress::Done(given.number),
+        match given.progress {
+            0 => Err(given.refusal),
+            1 => Ok(Progress::Stage(given.number)),
+            2 => Ok(Progress::Waiting(given.number)),
+            3 => Ok(Progress::Conflict(given.number)),
+            4 => Ok(Progress::Done(given.number)),
             other => unreachable!("there is no progress {other}"),
-        })
+        }
     }
 
     /// Abandon: gives the free figure.
