@@ -51,6 +51,12 @@ pub fn write(
     let own = search::own_row(rows, used, tag, cell);
     match own {
         Own::Row(at) => placing::replace_row(h, rows, at, value),
-        Own::Rows(n) => placing::add_row(h, number, rows, client, cell, value, n),
+        Own::Rows(n) => {
+            // who has fewer rows than the limit has fewer cells
+            if n < h.limit as usize {
+                return placing::new_row(h, number, rows, client, cell, value);
+            }
+            placing::counted_row(h, number, rows, client, cell, value)
+        }
     }
 }
