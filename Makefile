@@ -1,4 +1,4 @@
-# Two commands on a machine that has the toolchain, cargo and make:
+# Two commands on a machine that has the toolchain, cargo, cc and make:
 #   make run    proves and builds everything, then runs the step program on an example
 #   make test   runs all tests; its last line is 'N passed, 0 failed'
 # Further:

@@ -4,10 +4,10 @@ use Prim.Native.Nat.{ℕ, zero, suc, _+_, _*_, _-_, _/_, _%_, _≤_, _<_}
 use mathlib.Core.Path.{_≡_, refl, sym, ap, _∙_}
 use mathlib.Core.List.{List, [], _∷_, _++_, append-assoc, append-nil}
 use native.Mathlib.Nat.{add-assoc, add-zero, not-suc-le-zero}
-use native.Mathlib.Numerals.{add-one, towards-suc}
+use native.Mathlib.Numerals.{towards-suc}
 use native.Mathlib.Omega.{arith}
 use lib.ListN.{length, take, drop, getD, set, length-append, length-drop, take-append-drop, replicate}
-use lib.Seq.{drop-cons, sets-eq, paste, paste-suc, take-length, take-at, drop-at, length-take-le, drop-drop, drop-append-le, take-take}
+use lib.Seq.{drop-cons, sets-eq, take-at, drop-at, length-take-le, drop-drop, drop-append-le, take-take}
 use lib.Seq.{take-add, drop-length}
 use borrow.Rule.Slice.PartMut.{putMid}
 use Rattle.spec.specs.Rows.{part, number, bytesOf, spliced, dataRow, commitRow}
@@ -44,15 +44,7 @@ pub spliced-four : (s : List ℕ) (at a b c d : ℕ) → at + 4 ≤ length s
 unfolding spliced
 spliced-four s at a b c d h = simp towards-suc (simp towards-suc at (sets-eq (a ∷ b ∷ c ∷ d ∷ []) s at h))
 
--- a turn of a loop that copies, and its end
-pub paste-more : (d : List ℕ) (at : ℕ) (s : List ℕ) (i : ℕ) (e : List ℕ) → e ≡ paste d at s i → at + i < length d → i < length s
-    → set e (at + i) (getD s i 0) ≡ paste d at s (i + 1)
-paste-more d at s i e h hd hs = rw (h, add-one) (paste-suc d at s i 0 hd hs)
-
-pub paste-all : (d : List ℕ) (at : ℕ) (s : List ℕ) (n : ℕ) → n ≡ length s → paste d at s n ≡ spliced at s d
-unfolding spliced
-paste-all d at s n h = rw (h, take-length)
-
+-- the end of a loop that fills
 pub fill-all : (d : List ℕ) (v n : ℕ) → n ≡ length d → replicate n v ++ drop n d ≡ replicate (length d) v
 fill-all d v n h = rw (h, drop-length, append-nil)
 

@@ -34,7 +34,8 @@ new-row-requires c κs =
             p .1 .1 .1 .0,
             (
               p .1 .1 .1 .1,
-              lt-leb (a .h .limit) (cellsOf (getD (a .number .now) (a .client) 0) (dataRowsIn (a .h .used) (a .rows .now))) (omega (arith, c .before .before .count-cells .ensures)),
+              lt-leb (a .h .limit) (cellsOf (getD (a .number .now) (a .client) 0) (dataRowsIn (a .h .used) (a .rows .now))) (omega
+                  (arith, c .before .before .count-cells .ensures)),
             ),
           ),
         ),
@@ -45,4 +46,5 @@ returns-2 : tie.Need-returns-2
 returns-2 c = c .before .before .new-row .ensures
 
 pub counted-row-spec : {M : Type 1} → statement M
-counted-row-spec = tie.close (tie.spec (λ c. search needs) (λ c. search needs) (λ c. search needs) (λ c. search needs) count-cells-requires (λ c κs. search needs) (λ c. search needs) returns new-row-requires (λ c. search needs) returns-2)
+counted-row-spec = tie.close (tie.spec (λ c. search needs) (λ c. search needs) (λ c. search needs) (λ c. search needs)
+    count-cells-requires (λ c κs. search needs) (λ c. search needs) returns new-row-requires (λ c. search needs) returns-2)

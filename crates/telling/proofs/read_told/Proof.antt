@@ -14,4 +14,5 @@ returns-3 : tie.Need-returns-3
 returns-3 c = rw (c .before .before .answer2 .given .1, c .code-of .ensures)
 
 pub read-told-spec : {M : Type 1} → statement M
-read-told-spec = tie.close (tie.spec (λ c. search needs) (λ c. search needs) (λ c. search needs) (λ c. search needs) (λ c κs. search needs) returns returns-2 returns-3)
+read-told-spec = tie.close (tie.spec (λ c. search needs) (λ c. search needs) (λ c. search needs) (λ c. search needs) (λ c κs. search
+    needs) returns returns-2 returns-3)

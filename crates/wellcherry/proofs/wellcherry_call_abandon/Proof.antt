@@ -8,7 +8,15 @@ use Rattle.wellcherry.proofs.wellcherry_call_abandon.Statement.{stateme
 use Rattle.wellcherry.proofs.wellcherry_call_abandon.Tie as tie
 
 returns : tie.Need-returns
-returns c = rw (← c .before .before .before .before .before .before .before .before .before .before .before .before .before .before .before .head-in .ensures, c .before .put-head .ensures) (retold figureTold (abandon (c .before .before .before .before .before .before .before .before .before .before .before .before .before .before .before .before .before .before .before .args .client)) _ _ _ (c .before .before .before .before .before .before .abandon .ensures) (c .figure-told .ensures))
+returns c =
+    let args = c .before .before .before .before .before .before .before .before .before .before .before .before .before .before .before
+    .before .before .before .before .args in
+    let found = c .before .before .before .before .before .before .before .before .before .before .before .before .before .before .before
+    .head-in in
+    rw (← found .ensures, c .before .put-head .ensures)
+    (retold figureTold (abandon (args .client)) _ _ _ (c .before .before .before .before .before .before .abandon .ensures) (c
+    .figure-told .ensures))
 
 pub wellcherry-call-abandon-spec : {M : Type 1} → statement M
-wellcherry-call-abandon-spec = tie.close (tie.spec (λ c κs. search needs) (λ c κs. search needs) (λ c κs. search needs) (λ c κs. search needs) (λ c. search needs) returns)
+wellcherry-call-abandon-spec = tie.close (tie.spec (λ c κs. search needs) (λ c κs. search needs) (λ c κs. search needs) (λ c κs. search
+    needs) (λ c. search needs) returns)

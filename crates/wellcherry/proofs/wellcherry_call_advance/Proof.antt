@@ -8,7 +8,15 @@ use Rattle.wellcherry.proofs.wellcherry_call_advance.Statement.{stateme
 use Rattle.wellcherry.proofs.wellcherry_call_advance.Tie as tie
 
 returns : tie.Need-returns
-returns c = rw (← c .before .before .before .before .before .before .before .before .before .before .before .before .before .before .before .before .before .before .head-in .ensures, c .before .put-head .ensures) (retold advanceTold (advance (c .before .before .before .before .before .before .before .before .before .before .before .before .before .before .before .before .before .before .before .before .before .before .args .client)) _ _ _ (c .before .before .before .before .before .before .before .before .advance .ensures) (c .advance-told .ensures))
+returns c =
+    let args = c .before .before .before .before .before .before .before .before .before .before .before .before .before .before .before
+    .before .before .before .before .before .before .before .args in
+    let found = c .before .before .before .before .before .before .before .before .before .before .before .before .before .before .before
+    .before .before .before .head-in in
+    rw (← found .ensures, c .before .put-head .ensures)
+    (retold advanceTold (advance (args .client)) _ _ _ (c .before .before .before .before .before .before .before .before .advance
+    .ensures) (c .advance-told .ensures))
 
 pub wellcherry-call-advance-spec : {M : Type 1} → statement M
-wellcherry-call-advance-spec = tie.close (tie.spec (λ c κs. search needs) (λ c κs. search needs) (λ c κs. search needs) (λ c κs. search needs) (λ c. search needs) (λ c. search needs) returns)
+wellcherry-call-advance-spec = tie.close (tie.spec (λ c κs. search needs) (λ c κs. search needs) (λ c κs. search needs) (λ c κs. search
+    needs) (λ c. search needs) (λ c. search needs) returns)

@@ -8,7 +8,13 @@ use Rattle.wellcherry.proofs.wellcherry_call_begin.Statement.{statement
 use Rattle.wellcherry.proofs.wellcherry_call_begin.Tie as tie
 
 returns : tie.Need-returns
-returns c = rw (← c .before .before .before .before .before .before .before .before .before .before .before .before .head-in .ensures, c .before .put-head .ensures) (retold beginTold (begin (c .before .before .before .before .before .before .before .before .before .before .before .before .before .before .before .before .args .client)) _ _ _ (c .before .before .before .before .begin .ensures) (c .begin-told .ensures))
+returns c =
+    let args = c .before .before .before .before .before .before .before .before .before .before .before .before .before .before .before
+    .before .args in
+    let found = c .before .before .before .before .before .before .before .before .before .before .before .before .head-in in
+    rw (← found .ensures, c .before .put-head .ensures)
+    (retold beginTold (begin (args .client)) _ _ _ (c .before .before .before .before .begin .ensures) (c .begin-told .ensures))
 
 pub wellcherry-call-begin-spec : {M : Type 1} → statement M
-wellcherry-call-begin-spec = tie.close (tie.spec (λ c κs. search needs) (λ c κs. search needs) (λ c κs. search needs) (λ c κs. search needs) returns)
+wellcherry-call-begin-spec = tie.close (tie.spec (λ c κs. search needs) (λ c κs. search needs) (λ c κs. search needs) (λ c κs. search
+    needs) returns)

@@ -8,7 +8,10 @@ use Rattle.wellcherry.proofs.wellcherry_call_free.Statement.{statement}
 use Rattle.wellcherry.proofs.wellcherry_call_free.Tie as tie
 
 returns : tie.Need-returns
-returns c = λ n s q m b w. rw (← c .before .before .head-in .ensures) (retold figureTold (free) _ _ _ (c .before .free .ensures n s q m b w) (c .figure-told .ensures))
+returns c =
+    let found = c .before .before .head-in in
+    λ n s q m b w. rw (← found .ensures)
+    (retold figureTold (free) _ _ _ (c .before .free .ensures n s q m b w) (c .figure-told .ensures))
 
 pub wellcherry-call-free-spec : {M : Type 1} → statement M
 wellcherry-call-free-spec = tie.close (tie.spec (λ c κs. search needs) (λ c κs. search needs) (λ c κs. search needs) returns)

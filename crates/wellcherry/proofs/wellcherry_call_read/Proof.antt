@@ -8,7 +8,11 @@ use Rattle.wellcherry.proofs.wellcherry_call_read.Statement.{statement}
 use Rattle.wellcherry.proofs.wellcherry_call_read.Tie as tie
 
 returns : tie.Need-returns
-returns c = λ q m b w. rw (← c .before .before .head-in .ensures) (retold readTold (read (c .before .before .before .before .before .args .client) (c .before .before .before .before .before .args .cell)) _ _ _ (c .before .read .ensures q m b w) (c .read-told .ensures))
+returns c =
+    let args = c .before .before .before .before .before .args in
+    let found = c .before .before .head-in in
+    λ q m b w. rw (← found .ensures)
+    (retold readTold (read (args .client) (args .cell)) _ _ _ (c .before .read .ensures q m b w) (c .read-told .ensures))
 
 pub wellcherry-call-read-spec : {M : Type 1} → statement M
 wellcherry-call-read-spec = tie.close (tie.spec (λ c κs. search needs) (λ c κs. search needs) (λ c κs. search needs) returns)

@@ -6,7 +6,14 @@ use Rattle.wellcherry.proofs.wellcherry_call_set_up.Statement.{statemen
 use Rattle.wellcherry.proofs.wellcherry_call_set_up.Tie as tie
 
 returns : tie.Need-returns
-returns c = rw (c .before .put-head .ensures) (set-up-retold _ _ (c .before .before .before .before .before .before .before .before .before .before .before .before .before .before .before .before .before .before .before .before .args .first) (c .before .before .before .before .before .before .before .before .before .before .before .before .before .before .before .before .before .before .before .before .args .limit) (c .before .before .before .before .before .before .before .before .before .before .before .before .before .before .before .set-up .ensures) (c .before .before .before .spread .ensures) (c .figure-told .ensures))
+returns c =
+    let args = c .before .before .before .before .before .before .before .before .before .before .before .before .before .before .before
+    .before .before .before .before .before .args in
+    let made = c .before .before .before .before .before .before .before .before .before .before .before .before .before .before .before
+    .set-up in
+    let laid = c .before .before .before .spread in
+    rw (c .before .put-head .ensures) (set-up-retold _ _ (args .first) (args .limit) (made .ensures) (laid .ensures) (c .figure-told .ensures))
 
 pub wellcherry-call-set-up-spec : {M : Type 1} → statement M
-wellcherry-call-set-up-spec = tie.close (tie.spec (λ c κs. search needs) (λ c κs. search needs) (λ c κs. search needs) (λ c κs. search needs) (λ c. search needs) (λ c. search needs) returns)
+wellcherry-call-set-up-spec = tie.close (tie.spec (λ c κs. search needs) (λ c κs. search needs) (λ c κs. search needs) (λ c κs. search
+    needs) (λ c. search needs) (λ c. search needs) returns)

@@ -8,7 +8,12 @@ use Rattle.wellcherry.proofs.wellcherry_call_trim.Statement.{statement}
 use Rattle.wellcherry.proofs.wellcherry_call_trim.Tie as tie
 
 returns : tie.Need-returns
-returns c = λ q m b w. rw (← c .before .before .before .before .before .before .before .before .before .before .before .head-in .ensures, c .before .put-head .ensures) (retold figureTold (trim) _ _ _ (c .before .before .before .before .before .before .before .before .trim .ensures q m b w) (c .figure-told .ensures))
+returns c =
+    let found = c .before .before .before .before .before .before .before .before .before .before .before .head-in in
+    λ q m b w. rw (← found .ensures, c .before .put-head .ensures)
+    (retold figureTold (trim) _ _ _ (c .before .before .before .before .before .before .before .before .trim .ensures q m b w) (c
+    .figure-told .ensures))
 
 pub wellcherry-call-trim-spec : {M : Type 1} → statement M
-wellcherry-call-trim-spec = tie.close (tie.spec (λ c κs. search needs) (λ c κs. search needs) (λ c κs. search needs) (λ c κs. search needs) (λ c. search needs) (λ c. search needs) returns)
+wellcherry-call-trim-spec = tie.close (tie.spec (λ c κs. search needs) (λ c κs. search needs) (λ c κs. search needs) (λ c κs. search
+    needs) (λ c. search needs) (λ c. search needs) returns)

@@ -8,7 +8,13 @@ use Rattle.wellcherry.proofs.wellcherry_call_write.Statement.{statement
 use Rattle.wellcherry.proofs.wellcherry_call_write.Tie as tie
 
 returns : tie.Need-returns
-returns c = λ s q m b w. rw (← c .before .before .before .before .before .before .before .before .head-in .ensures, c .before .put-head .ensures) (retold figureTold (write (c .before .before .before .before .before .before .before .before .before .before .before .before .before .args .client) (c .before .before .before .before .before .before .before .before .before .before .before .before .before .args .cell) (c .before .before .before .before .before .before .before .before .before .before .before .before .before .args .value .now)) _ _ _ (c .before .before .before .before .before .before .write .ensures s q m b w) (c .figure-told .ensures))
+returns c =
+    let args = c .before .before .before .before .before .before .before .before .before .before .before .before .before .args in
+    let found = c .before .before .before .before .before .before .before .before .head-in in
+    λ s q m b w. rw (← found .ensures, c .before .put-head .ensures)
+    (retold figureTold (write (args .client) (args .cell) (args .value .now)) _ _ _ (c .before .before .before .before .before .before
+    .write .ensures s q m b w) (c .figure-told .ensures))
 
 pub wellcherry-call-write-spec : {M : Type 1} → statement M
-wellcherry-call-write-spec = tie.close (tie.spec (λ c κs. search needs) (λ c κs. search needs) (λ c κs. search needs) (λ c κs. search needs) (λ c. search needs) returns)
+wellcherry-call-write-spec = tie.close (tie.spec (λ c κs. search needs) (λ c κs. search needs) (λ c κs. search needs) (λ c κs. search
+    needs) (λ c. search needs) returns)

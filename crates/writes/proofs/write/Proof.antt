@@ -98,10 +98,14 @@ replace-row-requires c κs =
 
 new-row-requires : tie.Need-new-row-requires
 new-row-requires c κs =
-    let a = c .before .before .before .before .before .before .before .before .before .before .before .before .before .before .before .before .before .before .before .before .before .args in
+    let a = c .before .before .before .before .before .before .before .before .before .before .before .before .before .before .before
+    .before .before .before .before .before .before .args in
     let f : Found = find (isOwn (getD (a .number .now) (a .client) 0) (a .cell)) 0 (rowsIn 24 (a .h .used) (a .rows .now)) in
-    let missing = own-rows f _ _ _ (c .before .before .before .before .before .before .own-row .ensures) (c .before .before .before .before .own2 .given .1) in
-    let fit = fit-of _ _ _ (sym (c .before .before .before .before .before .before .before .before .before .before .before .before .before .before .before .before .before .fit .ensures [] [] [] [] [] []) ∙ not-false _ (c .before .before .before .before .before .before .before .before .before .before .before .before .before .before .before .before .if1 .left)) in (
+    let missing = own-rows f _ _ _ (c .before .before .before .before .before .before .own-row .ensures) (c .before .before .before
+    .before .own2 .given .1) in
+    let fit = fit-of _ _ _ (sym (c .before .before .before .before .before .before .before .before .before .before .before .before
+    .before .before .before .before .before .fit .ensures [] [] [] [] [] []) ∙ not-false _ (c .before .before .before .before .before
+    .before .before .before .before .before .before .before .before .before .before .before .if1 .left)) in (
       omega arith,
       (
         fit .dataRows,
@@ -121,35 +125,97 @@ new-row-requires c κs =
 
 returns-7 : tie.Need-returns-7
 returns-7 c =
-    let a = c .before .before .before .before .before .before .before .before .before .before .before .before .before .before .before .before .before .before .before .before .before .before .before .before .args in
+    let a = c .before .before .before .before .before .before .before .before .before .before .before .before .before .before .before
+    .before .before .before .before .before .before .before .before .before .args in
     let f : Found = find (isOwn (getD (a .number .now) (a .client) 0) (a .cell)) 0 (rowsIn 24 (a .h .used) (a .rows .now)) in
     λ s q m b w. write-stores (whole (a .h) (clientsOf (a .stage .now) (a .number .now) s q m b w)) (a .rows .now) (a .commits .now) (a
     .client) (a .cell)
-    (omega (arith, c .before .before .before .before .before .before .before .before .before .before .before .before .before .before .before .before .before .before .if2 .left)) (omega (arith, c .before .before .before .before .before .before .before .before .before .before .before .before .before .before .before .before .before .if3 .left)) (c .before .before .before .before .before .before .before .before .before .before .before .before .before .before .if5 .left) (c .before .before .before .before .before .before .before .before .before .before .before .before .if6 .left) (a .value .now) _ _ (sym (c .before .before .before .before .before .before .before .before .before .before .before .before .before .before .before .before .before .before .before .before .fit .ensures _ _ _ _ _ _) ∙ not-false _ (c .before .before .before .before .before .before .before .before .before .before .before .before .before .before .before .before .before .before .before .if1 .left)) (omega (arith, c .before .before .before .before .before .before .before .before .before .before .before .before .before .before .before .before .if4 .left))
-    (sym (own-rows f _ _ _ (c .before .before .before .before .before .before .before .before .before .own-row .ensures) (c .before .before .before .before .before .before .before .own2 .given .1) .0)) (c .before .before .new-row .ensures _ _ _ _ _ _ _)
+    (omega (
+      arith,
+      c .before .before .before .before .before .before .before .before .before .before .before .before .before .before
+          .before .before .before .before .if2 .left,
+    )) (omega (
+      arith,
+      c .before .before .before .before .before .before .before .before .before
+          .before .before .before .before .before .before .before .before .if3 .left,
+    )) (c .before .before .before .before .before .before
+    .before .before .before .before .before .before .before .before .if5 .left) (c .before .before .before .before .before .before
+    .before .before .before .before .before .before .if6 .left) (a .value .now) _ _ (sym (c .before .before .before .before .before
+    .before .before .before .before .before .before .before .before .before .before .before .before .before .before .before .fit .ensures
+    _ _ _ _ _ _) ∙ not-false _ (c .before .before .before .before .before .before .before .before .before .before .before .before .before
+    .before .before .before .before .before .before .if1 .left)) (omega (
+      arith,
+      c .before .before .before .before .before .before .before
+          .before .before .before .before .before .before .before .before .before .if4 .left,
+    ))
+    (sym (own-rows f _ _ _ (c .before .before .before .before .before .before .before .before .before .own-row .ensures) (c .before
+    .before .before .before .before .before .before .own2 .given .1) .0)) (c .before .before .new-row .ensures _ _ _ _ _ _ _)
 
 counted-row-requires : tie.Need-counted-row-requires
 counted-row-requires c κs =
-    let fit = fit-of _ _ _ (sym (c .before .before .before .before .before .before .before .before .before .before .before .before .before .before .before .before .before .fit .ensures [] [] [] [] [] []) ∙ not-false _ (c .before .before .before .before .before .before .before .before .before .before .before .before .before .before .before .before .if1 .left)) in
+    let fit = fit-of _ _ _ (sym (c .before .before .before .before .before .before .before .before .before .before .before .before
+    .before .before .before .before .before .fit .ensures [] [] [] [] [] []) ∙ not-false _ (c .before .before .before .before .before
+    .before .before .before .before .before .before .before .before .before .before .before .if1 .left)) in
     (omega arith, (fit .dataRows, (omega arith, (omega arith, omega arith))))
 
 returns-8 : tie.Need-returns-8
 returns-8 c =
-    let a = c .before .before .before .before .before .before .before .before .before .before .before .before .before .before .before .before .before .before .before .before .before .before .args in
+    let a = c .before .before .before .before .before .before .before .before .before .before .before .before .before .before .before
+    .before .before .before .before .before .before .before .args in
     let f : Found = find (isOwn (getD (a .number .now) (a .client) 0) (a .cell)) 0 (rowsIn 24 (a .h .used) (a .rows .now)) in
     λ s q m b w. write-stores (whole (a .h) (clientsOf (a .stage .now) (a .number .now) s q m b w)) (a .rows .now) (a .commits .now) (a
     .client) (a .cell)
-    (omega (arith, c .before .before .before .before .before .before .before .before .before .before .before .before .before .before .before .before .if2 .left)) (omega (arith, c .before .before .before .before .before .before .before .before .before .before .before .before .before .before .before .if3 .left)) (c .before .before .before .before .before .before .before .before .before .before .before .before .if5 .left) (c .before .before .before .before .before .before .before .before .before .before .if6 .left) (a .value .now) _ _ (sym (c .before .before .before .before .before .before .before .before .before .before .before .before .before .before .before .before .before .before .fit .ensures _ _ _ _ _ _) ∙ not-false _ (c .before .before .before .before .before .before .before .before .before .before .before .before .before .before .before .before .before .if1 .left)) (omega (arith, c .before .before .before .before .before .before .before .before .before .before .before .before .before .before .if4 .left))
-    (sym (own-row f _ _ _ (c .before .before .before .before .before .before .before .own-row .ensures) (c .before .before .before .before .before .own .given .1))) (c .before .before .replace-row .ensures _ _ _ _ _ _ _ _)
+    (omega (
+      arith,
+      c .before .before .before .before .before .before .before .before .before .before .before .before .before .before
+          .before .before .if2 .left,
+    )) (omega (
+      arith,
+      c .before .before .before .before .before .before .before .before .before .before .before
+          .before .before .before .before .if3 .left,
+    )) (c .before .before .before .before .before .before .before .before .before .before
+    .before .before .if5 .left) (c .before .before .before .before .before .before .before .before .before .before .if6 .left) (a .value
+    .now) _ _ (sym (c .before .before .before .before .before .before .before .before .before .before .before .before .before .before
+    .before .before .before .before .fit .ensures _ _ _ _ _ _) ∙ not-false _ (c .before .before .before .before .before .before .before
+    .before .before .before .before .before .before .before .before .before .before .if1 .left)) (omega (
+      arith,
+      c .before .before .before
+          .before .before .before .before .before .before .before .before .before .before .before .if4 .left,
+    ))
+    (sym (own-row f _ _ _ (c .before .before .before .before .before .before .before .own-row .ensures) (c .before .before .before
+    .before .before .own .given .1))) (c .before .before .replace-row .ensures _ _ _ _ _ _ _ _)
 
 returns-9 : tie.Need-returns-9
 returns-9 c =
-    let a = c .before .before .before .before .before .before .before .before .before .before .before .before .before .before .before .before .before .before .before .before .before .before .before .before .args in
+    let a = c .before .before .before .before .before .before .before .before .before .before .before .before .before .before .before
+    .before .before .before .before .before .before .before .before .before .args in
     let f : Found = find (isOwn (getD (a .number .now) (a .client) 0) (a .cell)) 0 (rowsIn 24 (a .h .used) (a .rows .now)) in
     λ s q m b w. write-stores (whole (a .h) (clientsOf (a .stage .now) (a .number .now) s q m b w)) (a .rows .now) (a .commits .now) (a
     .client) (a .cell)
-    (omega (arith, c .before .before .before .before .before .before .before .before .before .before .before .before .before .before .before .before .before .before .if2 .left)) (omega (arith, c .before .before .before .before .before .before .before .before .before .before .before .before .before .before .before .before .before .if3 .left)) (c .before .before .before .before .before .before .before .before .before .before .before .before .before .before .if5 .left) (c .before .before .before .before .before .before .before .before .before .before .before .before .if6 .left) (a .value .now) _ _ (sym (c .before .before .before .before .before .before .before .before .before .before .before .before .before .before .before .before .before .before .before .before .fit .ensures _ _ _ _ _ _) ∙ not-false _ (c .before .before .before .before .before .before .before .before .before .before .before .before .before .before .before .before .before .before .before .if1 .left)) (omega (arith, c .before .before .before .before .before .before .before .before .before .before .before .before .before .before .before .before .if4 .left))
-    (sym (own-rows f _ _ _ (c .before .before .before .before .before .before .before .before .before .own-row .ensures) (c .before .before .before .before .before .before .before .own2 .given .1) .0)) (c .before .before .counted-row .ensures _ _ _ _ _ _ _)
+    (omega (
+      arith,
+      c .before .before .before .before .before .before .before .before .before .before .before .before .before .before
+          .before .before .before .before .if2 .left,
+    )) (omega (
+      arith,
+      c .before .before .before .before .before .before .before .before .before
+          .before .before .before .before .before .before .before .before .if3 .left,
+    )) (c .before .before .before .before .before .before
+    .before .before .before .before .before .before .before .before .if5 .left) (c .before .before .before .before .before .before
+    .before .before .before .before .before .before .if6 .left) (a .value .now) _ _ (sym (c .before .before .before .before .before
+    .before .before .before .before .before .before .before .before .before .before .before .before .before .before .before .fit .ensures
+    _ _ _ _ _ _) ∙ not-false _ (c .before .before .before .before .before .before .before .before .before .before .before .before .before
+    .before .before .before .before .before .before .if1 .left)) (omega (
+      arith,
+      c .before .before .before .before .before .before .before
+          .before .before .before .before .before .before .before .before .before .if4 .left,
+    ))
+    (sym (own-rows f _ _ _ (c .before .before .before .before .before .before .before .before .before .own-row .ensures) (c .before
+    .before .before .before .before .before .before .own2 .given .1) .0)) (c .before .before .counted-row .ensures _ _ _ _ _ _ _)
 
 pub write-spec : {M : Type 1} → statement M
-write-spec = tie.close (tie.spec (λ c κs. search needs) (λ c κs. search needs) returns (λ c κs. search needs) returns-2 (λ c κs. search needs) returns-3 (λ c κs. search needs) returns-4 (λ c. search needs) (λ c. search needs) (λ c κs. search needs) returns-5 (λ c. search needs) (λ c. search needs) (λ c κs. search needs) returns-6 (λ c. search needs) own-row-requires (λ c. search needs) replace-row-requires (λ c. search needs) (λ c. search needs) new-row-requires (λ c. search needs) returns-7 counted-row-requires (λ c. search needs) returns-8 (λ c. search needs) returns-9)
+write-spec = tie.close (tie.spec (λ c κs. search needs) (λ c κs. search needs) returns (λ c κs. search needs) returns-2 (λ c κs. search
+    needs) returns-3 (λ c κs. search needs) returns-4 (λ c. search needs) (λ c. search needs) (λ c κs. search needs) returns-5 (λ c.
+    search needs) (λ c. search needs) (λ c κs. search needs) returns-6 (λ c. search needs) own-row-requires (λ c. search needs)
+    replace-row-requires (λ c. search needs) (λ c. search needs) new-row-requires (λ c. search needs) returns-7 counted-row-requires (λ
+    c. search needs) returns-8 (λ c. search needs) returns-9)
