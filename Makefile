@@ -65,7 +65,8 @@ bench: build
 	tests/bench.sh
 
 peers:
-	@if pkg-config --exists sqlite3 && [ -e /usr/include/lmdb.h ]; then bench/peers.sh --tickets $(TICKETS); \
+	@if pkg-config --exists sqlite3 && [ -e /usr/include/lmdb.h ]; then \
+	$(MAKE) --no-print-directory lib && bench/peers.sh --tickets $(TICKETS); \
 	else echo "SQLite's or LMDB's development package is not installed: nothing to compare with."; fi
 
 outputs:

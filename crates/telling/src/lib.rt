@@ -90,6 +90,17 @@ pub fn begin_told(answer: BeginAnswer) -> Numbers
     }
 }
 
+// No row: of an unwritten cell, with refusal 0, and of a refused Read.
+fn nowhere(refusal: u32) -> Place
+    ensures { λ r. ⌜ toldOf (r .refusal) (r .found) (r .row) ≡ toldOf refusal 0 0 ⌝ }
+{
+    Place {
+        refusal,
+        found: 0,
+        row: 0,
+    }
+}
+
 pub fn read_told(answer: ReadAnswer) -> Place
     ensures { λ r. ⌜ toldOf (r .refusal) (r .found) (r .row) ≡ inNumbers readTold (readOf answer) ⌝ }
 {
@@ -100,17 +111,9 @@ pub fn read_told(answer: ReadAnswer) -> Place
                 found: 1,
                 row: at,
             },
-            Reading::Unwritten => Place {
-                refusal: 0,
-                found: 0,
-                row: 0,
-            },
+            Reading::Unwritten => nowhere(0),
         },
-        ReadAnswer::Refused(why) => Place {
-            refusal: code_of(why),
-            found: 0,
-            row: 0,
-        },
+        ReadAnswer::Refused(why) => nowhere(code_of(why)),
     }
 }
 
