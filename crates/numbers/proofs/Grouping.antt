@@ -1,4 +1,4 @@
--- The newer of two versions, and the lesser of two numbers, may be taken in any grouping; what is missing changes nothing.
+-- The lesser of two numbers may be taken in any grouping; what is missing changes nothing.
 -- Assumes nothing.
 use mathlib.Core.Path.{_≡_, refl}
 use mathlib.Core.Bool.{Bool, true, false}
@@ -8,33 +8,7 @@ use borrow.Author.Tests.{lt-ltb, le-ltb, ltb-true, ltb-false}
 use Rattle.spec.specs.Choice.{if_then_else_}
 use Rattle.spec.specs.declared.Number.{Number}
 use Rattle.spec.specs.declared.Number.the-variants.{Some, None}
-use Rattle.spec.specs.declared.Lookup.{Lookup}
-use Rattle.spec.specs.declared.Lookup.the-variants.{Version, Nothing}
 use Rattle.spec.specs.Numbers.{lesser}
-use Rattle.spec.specs.Look.{newer}
-
-pub newer-assoc : (a b c : Lookup) → newer (newer a b) c ≡ newer a (newer b c)
-unfolding newer
-newer-assoc Nothing b c = refl
-newer-assoc (Version i m) Nothing c = refl
-newer-assoc (Version i m) (Version j n) Nothing = go (ltb m n)
-  where
-    go : (t : Bool) → newer (if t then Version j n else Version i m) Nothing ≡ (if t then Version j n else Version i m)
-    go true = refl
-    go false = refl
-newer-assoc (Version i m) (Version j n) (Version k o) = go (ltb m n) (ltb n o) refl refl
-  where
-    go : (t u : Bool) → ltb m n ≡ t → ltb n o ≡ u
-        → newer (if t then Version j n else Version i m) (Version k o) ≡ newer (Version i m) (if u then Version k o else Version j n)
-    go true true e f = rw (f, lt-ltb m o (omega (arith, ltb-true m n e, ltb-true n o f)))
-    go true false e f = rw (f, e)
-    go false true e f = refl
-    go false false e f = rw (e, le-ltb m o (omega (arith, ltb-false m n e, ltb-false n o f)))
-
-pub newer-none : (a : Lookup) → newer a Nothing ≡ a
-unfolding newer
-newer-none Nothing = refl
-newer-none (Version i n) = refl
 
 pub lesser-assoc : (a b c : Number) → lesser (lesser a b) c ≡ lesser a (lesser b c)
 unfolding lesser

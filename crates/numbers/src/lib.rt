@@ -15,16 +15,16 @@ pub fn up_to(snapshot: u32, number: Number) -> Number
     }
 }
 
-// The better of what was seen before and row i under the number n.
-fn newer_version(best: Lookup, i: usize, n: u32) -> Lookup
-    ensures { λ r. ⌜ r ≡ newer best (Lookup.Version i n) ⌝ }
+// The newer of row i under the number n and what the rows behind it give; the first of equals.
+fn newer_version(i: usize, n: u32, best: Lookup) -> Lookup
+    ensures { λ r. ⌜ r ≡ newer (Lookup.Version i n) best ⌝ }
 {
     match best {
         Lookup::Version { at: _, number } => {
-            if number < n {
-                Lookup::Version { at: i, number: n }
-            } else {
+            if n < number {
                 best
+            } else {
+                Lookup::Version { at: i, number: n }
             }
         }
         Lookup::Nothing => Lookup::Version { at: i, number: n },
@@ -32,11 +32,11 @@ fn newer_version(best: Lookup, i: usize, n: u32) -> Lookup
 }
 
 // The same, under a number that may be missing.
-pub fn newer_of(best: Lookup, i: usize, number: Number) -> Lookup
-    ensures { λ r. ⌜ r ≡ newer best (versionAt i number) ⌝ }
+pub fn newer_of(i: usize, number: Number, best: Lookup) -> Lookup
+    ensures { λ r. ⌜ r ≡ newer (versionAt i number) best ⌝ }
 {
     match number {
-        Number::Some(n) => newer_version(best, i, n),
+        Number::Some(n) => newer_version(i, n, best),
         Number::None => best,
     }
 }

@@ -53,7 +53,7 @@ pub fn read(
     let used = h.used as usize;
     let entries = h.entries as usize;
     let since = snapshot[k];
-    let seen = search::look_for(rows, used, commits, entries, own, cell, since);
+    let seen = looks::look_for(rows, used, commits, entries, own, cell, since);
     match seen {
         Lookup::Version { at, number: _ } => ReadAnswer::Answered(Reading::Value(at)),
         Lookup::Nothing => ReadAnswer::Answered(Reading::Unwritten),

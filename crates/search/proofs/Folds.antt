@@ -13,13 +13,11 @@ use lib.ListN.{length, getD}
 use borrow.Author.Tests.{eq-eqb, ne-eqb}
 use Rattle.spec.specs.Choice.{if_then_else_}
 use Rattle.spec.specs.Rows.{Row, tagOf, cellOf, hasTag, commitNumber, commitTag, rowAt, rowsIn, rowsFrom}
-use Rattle.spec.proofs.Bytes.{number-two}
-use Rattle.spec.proofs.Rows.{field, rows-start, rows-step, rows-end}
+use Rattle.spec.proofs.Rows.{rows-start, rows-step, rows-end}
 use Rattle.spec.specs.declared.Number.{Number}
 use Rattle.spec.specs.declared.Number.the-variants.{Some, None}
 use Rattle.spec.specs.declared.Found.the-variants.{At, Missing}
-use Rattle.spec.specs.declared.Lookup.the-variants.{Nothing}
-use Rattle.spec.specs.Look.{commitOf, isOwn, find, newer, versionAt, newest}
+use Rattle.spec.specs.Look.{commitOf, isOwn, find}
 use Rattle.spec.specs.Share.{any, count, wrote, cellsOf}
 
 -- ---- choices
@@ -57,12 +55,6 @@ tag-yes tag r e = eq-eqb _ _ e
 pub tag-no : (tag : ℕ) (r : Row) → (tagOf r ≡ tag → ⊥) → hasTag tag r ≡ false
 unfolding hasTag
 tag-no tag r n = ne-eqb _ _ n
-
--- a cell is a number of two bytes
-pub cell-fits : (k : ℕ) (s : List ℕ) → 24 * k + 24 ≤ length s → ((j : ℕ) → getD s j 0 < 256) → cellOf (rowAt 24 k s) < 65536
-unfolding cellOf
-cell-fits k s h b =
-    rw (← field 4 2 24 k s (omega arith)) (omega (arith, number-two s (24 * k + 4) (omega arith), b (24 * k + 4), b (24 * k + 4 + 1)))
 
 -- ---- folds by a test
 
@@ -120,15 +112,15 @@ module _ (p : Row → Bool) (w n : ℕ) (s : List ℕ) where
 -- ---- the first committed row with a tag
 
 module _ (tag n : ℕ) (s : List ℕ) where
-  commit-miss : (i : ℕ) → i < n → (commitTag (rowAt 8 i s) ≡ tag → ⊥) → commitOf tag (rowsFrom 8 n i s) ≡ commitOf tag (rowsFrom 8 n (i + 1) s)
+  pub commit-miss : (i : ℕ) → i < n → (commitTag (rowAt 8 i s) ≡ tag → ⊥) → commitOf tag (rowsFrom 8 n i s) ≡ commitOf tag (rowsFrom 8 n (i + 1) s)
   unfolding commitOf
   commit-miss i h ne = rw (rows-step 8 n i s h, ne-eqb _ _ ne)
 
-  commit-hit : (i : ℕ) → i < n → commitTag (rowAt 8 i s) ≡ tag → commitOf tag (rowsFrom 8 n i s) ≡ Some (commitNumber (rowAt 8 i s))
+  pub commit-hit : (i : ℕ) → i < n → commitTag (rowAt 8 i s) ≡ tag → commitOf tag (rowsFrom 8 n i s) ≡ Some (commitNumber (rowAt 8 i s))
   unfolding commitOf
   commit-hit i h e = rw (rows-step 8 n i s h, eq-eqb _ _ e)
 
-  commit-end : commitOf tag (rowsFrom 8 n n s) ≡ None
+  pub commit-end : commitOf tag (rowsFrom 8 n n s) ≡ None
   unfolding commitOf
   commit-end = rw (rows-end 8 n n s (omega arith))
 
@@ -142,21 +134,6 @@ module _ (tag n : ℕ) (s : List ℕ) where
       rw (rows-start 8 n s)
       (to-start (λ i. commitOf tag (rowsFrom 8 n i s) ≡ Some (commitNumber (rowAt 8 k s))) k (commit-hit k h e)
       (λ i l rest. commit-miss i (omega arith) (before i l) ∙ rest))
-
--- ---- the newest row
-
-module _ (f : Row → Number) (w n i : ℕ) (s : List ℕ) where
-  pub newest-step : i < n → newest f i (rowsFrom w n i s) ≡ newer (versionAt i (f (rowAt w i s))) (newest f (i + 1) (rowsFrom w n (i + 1) s))
-  unfolding newest
-  newest-step h = rw (rows-step w n i s h)
-
-  pub newest-miss : i < n → f (rowAt w i s) ≡ None → newest f i (rowsFrom w n i s) ≡ newest f (i + 1) (rowsFrom w n (i + 1) s)
-  unfolding newest newer versionAt
-  newest-miss h e = rw (rows-step w n i s h, e)
-
-  pub newest-none : n ≤ i → newest f i (rowsFrom w n i s) ≡ Nothing
-  unfolding newest
-  newest-none h = rw (rows-end w n i s h)
 
 -- ---- how many cells
 

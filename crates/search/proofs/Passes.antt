@@ -1,6 +1,7 @@
 -- Passes over rows. A pass (`Next`) goes from row `from` to the next hit r: what holds on past every row that is no hit holds at r (`carry`), and
 -- whatever takes no notice of such a row is the same from `from` on as from r on (`skip`). A pass that has found nothing before row i is
--- `Past Hit from i`: rows are added to it one by one, and a hit ends it.
+-- `Past Hit from i`: rows are added to it one by one, and a hit ends it. A pass from the end (`Last`) goes from row n to the last hit before it: what
+-- holds before every row that is no hit if it holds behind it holds at its end (`carry-back`).
 -- Assumes nothing.
 use Prim.Native.Nat.{ℕ, zero, suc, _+_, _-_, _≤_, _<_}
 use mathlib.Core.Path.{_≡_, refl, _∙_}
@@ -8,7 +9,7 @@ use native.Mathlib.Nat.{add-zero}
 use native.Mathlib.Decide.{decLt}
 use native.Mathlib.Omega.{arith}
 use borrow.Author.Count.{below-more}
-use Rattle.search.specs.Inner.{Next}
+use Rattle.search.specs.Inner.{Next, Last}
 
 carry-by : (P : ℕ → Type 0) (d from : ℕ) → ((k : ℕ) → from ≤ k → k < from + d → P k → P (k + 1)) → P from → P (from + d)
 carry-by P zero from more p = rw add-zero p
@@ -71,3 +72,34 @@ module _ {Hit : ℕ → Type 0} {from : ℕ} where
         misses : (k : ℕ) → from ≤ k → k < r → Dec (k < i) → Hit k → ⊥
         misses k l b (yes a) = pass .misses k l a
         misses k l b (no a) = rest .misses k (omega (arith, a)) b
+
+-- ---- from the end
+
+down-by : (P : ℕ → Type 0) (d r : ℕ) → ((k : ℕ) → r ≤ k → k < r + d → P (k + 1) → P k) → P (r + d) → P r
+down-by P zero r more p =
+    let q : P (r + zero) = p in
+    rw add-zero at q
+down-by P (suc d) r more p =
+    let e : r + suc d ≡ r + d + 1 = omega arith in
+    let q : P (r + suc d) = p in
+    down-by P d r (λ k l b. more k l (omega arith)) (more (r + d) (omega arith) (omega arith) (rw e at q))
+
+pub down-to : (P : ℕ → Type 0) (n r : ℕ) → r ≤ n → ((k : ℕ) → r ≤ k → k < n → P (k + 1) → P k) → P n → P r
+down-to P n r h more p =
+    let e : n ≡ r + (n - r) = omega arith in
+    let q : P n = p in
+    down-by P (n - r) r (λ k l b. more k l (omega arith)) (rw e at q)
+
+pub carry-back : {Hit : ℕ → Type 0} {n r : ℕ} (P : ℕ → Type 0) → Last Hit n r → ((k : ℕ) → k < n → (Hit k → ⊥) → P (k + 1) → P k) → P n → P r
+carry-back {n = n} {r = r} P pass more = down-to P n r (pass .end) (λ k l b. more k b (pass .misses k l b))
+
+module _ {Hit : ℕ → Type 0} {n : ℕ} where
+  -- no row is a hit
+  pub last-none : ((k : ℕ) → k < n → Hit k → ⊥) → Last Hit n 0
+  last-none all = record { end = omega arith; misses = λ k l b. all k b; hit = λ h. absurd (omega arith) }
+
+  -- a hit, and none behind it
+  pub last-found : {i k : ℕ} → Past Hit i n → k + 1 ≡ i → Hit k → Last Hit n i
+  last-found {i = i} {k = k} pass e here =
+      let f : i - 1 ≡ k = omega arith in
+      record { end = pass .start; misses = pass .misses; hit = λ h. rw f here }

@@ -1,6 +1,6 @@
 -- What the contracts of inner functions need beyond the words of the papers: nobody has to believe it.
 -- Assumes nothing.
-use Prim.Native.Nat.{ℕ, _≤_, _<_}
+use Prim.Native.Nat.{ℕ, _-_, _≤_, _<_}
 use mathlib.Core.Path.{_≡_}
 use mathlib.Core.List.{List}
 use lib.ListN.{length, getD}
@@ -24,6 +24,12 @@ pub record Next (Hit : ℕ → Type 0) (from n r : ℕ) : Type 0 where
   pub end : r ≤ n
   pub misses : (k : ℕ) → from ≤ k → k < r → Hit k → ⊥
   pub hit : r < n → Hit r
+
+-- r is 1 more than the last number below n that is a hit, or 0 where there is none
+pub record Last (Hit : ℕ → Type 0) (n r : ℕ) : Type 0 where
+  pub end : r ≤ n
+  pub misses : (k : ℕ) → r ≤ k → k < n → Hit k → ⊥
+  pub hit : 0 < r → Hit (r - 1)
 
 -- marks say of each cell below 1,024 whether the transaction wrote it
 pub record WrittenMarks (marks : List ℕ) (ds : List Row) (tag : ℕ) : Type 0 where

@@ -8,11 +8,10 @@ ghost use Rattle.spec.specs.Set.{clients, member, insert};
 ghost use Rattle.spec.specs.Choice.{if_then_else_};
 ghost use Rattle.spec.specs.Rows.{dataWidth, commitWidth, dataRowsIn, commitRowsIn, rowAt, rowsFrom, tagOf};
 ghost use Rattle.spec.specs.Rows.{cellOf, commitNumber, commitTag, hasTag};
-ghost use Rattle.spec.specs.Look.{commitOf, lookFor};
+ghost use Rattle.spec.specs.Look.{commitOf};
 ghost use Rattle.spec.specs.Share.{any, wrote, cellsOf, conflict};
 ghost use Rattle.search.specs.Inner.{ownOf, sharersOf, mayHave, Joined, Next, WrittenMarks};
 use spec::CLIENTS;
-use spec::Lookup;
 use spec::Number;
 use spec::Set;
 
@@ -22,7 +21,7 @@ pub enum Own {
     Rows(usize),
 }
 
-// ---- the passes: the next row, from row from on, with a tag or a cell; used where there is none. The inner loops have
+// ---- the passes: the next row, from row from on, with a tag; used where there is none. The inner loops have
 // a fixed length and are written out by the compiler: the outer one's own steps are shared by eight rows or sixteen.
 
 pub fn next_tag(rows: &[u8], from: usize, used: usize, tag: u32) -> usize
@@ -49,49 +48,22 @@ pub fn next_tag(rows: &[u8], from: usize, used: usize, tag: u32) -> usize
     used
 }
 
-fn next_cell(rows: &[u8], from: usize, used: usize, cell: u32) -> usize
-    requires { ⌜ dataWidth * used ≤ length (now rows) ⌝ }
-    requires { ⌜ from ≤ used ⌝ }
-    ensures { λ r. ⌜ Next (λ k. cellOf (rowAt dataWidth k (now (rows .entry))) ≡ cell) from used r ⌝ }
+// The first committed row, from row from on, with that tag; entries where there is none.
+pub fn next_commit(commits: &[u8], from: usize, entries: usize, tag: u32) -> usize
+    requires { ⌜ commitWidth * entries ≤ length (now commits) ⌝ }
+    requires { ⌜ from ≤ entries ⌝ }
+    ensures { λ r. ⌜ Next (λ k. commitTag (rowAt commitWidth k (now (commits .entry))) ≡ tag) from entries r ⌝ }
 {
-    if 65535 < cell {
-        return used;
-    }
-    let short = cell as u16;
-    let turns = (used - from) / 16;
+    let turns = (entries - from) / 16;
     for t in 0..turns {
         for j in 0..16 {
             let i = from + 16 * t + j;
-            if rows::short_cell_at(rows, i) == short {
-                return i;
-            }
-        }
-    }
-    let mut i = from + 16 * turns;
-    while i < used {
-        if rows::short_cell_at(rows, i) == short {
-            return i;
-        }
-        i += 1;
-    }
-    used
-}
-
-// The first committed row with that tag; entries where there is none.
-fn committed_at(commits: &[u8], entries: usize, tag: u32) -> usize
-    requires { ⌜ commitWidth * entries ≤ length (now commits) ⌝ }
-    ensures { λ r. ⌜ Next (λ k. commitTag (rowAt commitWidth k (now (commits .entry))) ≡ tag) 0 entries r ⌝ }
-{
-    let turns = entries / 16;
-    for t in 0..turns {
-        for j in 0..16 {
-            let i = 16 * t + j;
             if rows::commit_tag_at(commits, i) == tag {
                 return i;
             }
         }
     }
-    let mut i = 16 * turns;
+    let mut i = from + 16 * turns;
     while i < entries {
         if rows::commit_tag_at(commits, i) == tag {
             return i;
@@ -106,42 +78,11 @@ pub fn commit_of(commits: &[u8], entries: usize, tag: u32) -> Number
     requires { ⌜ commitWidth * entries ≤ length (now commits) ⌝ }
     ensures { λ r. ⌜ r ≡ commitOf tag (commitRowsIn entries (now (commits .entry))) ⌝ }
 {
-    let at = committed_at(commits, entries, tag);
+    let at = next_commit(commits, 0, entries, tag);
     if at < entries {
         return Number::Some(rows::commit_number_at(commits, at));
     }
     Number::None
-}
-
-// ---- Read
-
-// The row that a read finds: the reader's own, else the visible one, in one pass.
-pub fn look_for(
-    rows: &[u8],
-    used: usize,
-    commits: &[u8],
-    entries: usize,
-    tag: u32,
-    cell: u32,
-    snapshot: u32,
-) -> Lookup
-    requires { ⌜ dataWidth * used ≤ length (now rows) ⌝ }
-    requires { ⌜ commitWidth * entries ≤ length (now commits) ⌝ }
-    ensures { λ r. ⌜ r ≡ lookFor tag cell snapshot (dataRowsIn used (now (rows .entry)))
-        (commitRowsIn entries (now (commits .entry))) ⌝ }
-{
-    let mut best = Lookup::Nothing;
-    let mut i = next_cell(rows, 0, used, cell);
-    while i < used {
-        let writer = rows::tag_at(rows, i);
-        if writer == tag {
-            return Lookup::Version { at: i, number: 0 };
-        }
-        let number = numbers::up_to(snapshot, commit_of(commits, entries, writer));
-        best = numbers::newer_of(best, i, number);
-        i = next_cell(rows, i + 1, used, cell);
-    }
-    best
 }
 
 // ---- a transaction's own rows

@@ -10,13 +10,13 @@ returns : tie.Need-returns
 unfolding newer
 returns c =
     let told = c .before .before .best .given in
-    rw (told .1, lt-ltb (told .0 .1 .0) (c .before .before .before .before .args .n) (omega (arith, c .if1 .taken)))
+    rw (told .1, lt-ltb (c .before .before .before .before .args .n) (told .0 .1 .0) (omega (arith, c .if1 .taken)))
 
 returns-2 : tie.Need-returns-2
 unfolding newer
 returns-2 c =
     let told = c .before .before .best .given in
-    rw (told .1, le-ltb (told .0 .1 .0) (c .before .before .before .before .args .n) (omega (arith, c .if1 .left)))
+    rw (told .1, le-ltb (c .before .before .before .before .args .n) (told .0 .1 .0) (omega (arith, c .if1 .left)))
 
 returns-3 : tie.Need-returns-3
 unfolding newer

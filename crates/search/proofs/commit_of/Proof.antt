@@ -1,4 +1,4 @@
--- `search::commit_of`: the number of the row that `committed_at` found.
+-- `search::commit_of`: the number of the row that `next_commit` found.
 use mathlib.Core.Path.{sym, ap, _∙_}
 use native.Mathlib.Omega.{arith}
 use borrow.Author.Needs.{needs}
@@ -9,7 +9,7 @@ use Rattle.search.proofs.commit_of.Tie as tie
 
 returns : tie.Need-returns
 returns c =
-    let found = c .before .before .committed-at in
+    let found = c .before .before .next-commit in
     let a = c .before .before .before .before .args in
     ap Some (c .commit-number-at .ensures)
     ∙ sym (commit-first (a .tag) (a .entries) (a .commits .now) (found .result) (c .before .if1 .taken) (found .ensures .hit (c .before .if1 .taken))
@@ -17,7 +17,7 @@ returns c =
 
 returns-2 : tie.Need-returns-2
 returns-2 c =
-    let found = c .before .committed-at in
+    let found = c .before .next-commit in
     let a = c .before .before .before .args in
     sym (commit-none (a .tag) (a .entries) (a .commits .now) (λ k b. found .ensures .misses k (omega arith) (omega (arith, c .if1 .left))))
 

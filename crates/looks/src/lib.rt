@@ -1,0 +1,253 @@
+// The row that a read finds. Rows are gone through from the last to the first, where the newest version of a cell is
+// likely met first: once one is known, committed rows numbered below it are passed over, and so are data rows whose
+// tag no other committed row can have. No order of the rows is relied on.
+ghost use mathlib.Core.Path.{_≡_};
+ghost use mathlib.Core.List.{List};
+ghost use Prim.Native.Nat.{ℕ, _+_, _*_, _≤_, _<_};
+ghost use lib.ListN.{length};
+ghost use Rattle.spec.specs.Rows.{dataWidth, commitWidth, dataRowsIn, commitRowsIn, Row, rowAt};
+ghost use Rattle.spec.specs.Rows.{tagOf, cellOf, commitNumber};
+ghost use Rattle.spec.specs.Numbers.{upTo};
+ghost use Rattle.spec.specs.Look.{commitOf, lookFor};
+ghost use Rattle.search.specs.Inner.{Next, Last};
+ghost use Rattle.looks.specs.Inner.{Older, LeastTag, NumberedBelow, atLeast, Seen};
+use search::Own;
+use spec::Lookup;
+use spec::Number;
+
+// ---- passes from the end over the rows before row until: 1 more than the last one that is a hit, 0 where there is none
+
+fn last_cell(rows: &[u8], until: usize, cell: u32) -> usize
+    requires { ⌜ dataWidth * until ≤ length (now rows) ⌝ }
+    ensures { λ r. ⌜ Last (λ k. cellOf (rowAt dataWidth k (now (rows .entry))) ≡ cell) until r ⌝ }
+{
+    if 65535 < cell {
+        return 0;
+    }
+    let short = cell as u16;
+    let mut i = until;
+    while 16 <= i {
+        for j in 0..16 {
+            if rows::short_cell_at(rows, i - 1 - j) == short {
+                return i - j;
+            }
+        }
+        i -= 16;
+    }
+    while 0 < i {
+        if rows::short_cell_at(rows, i - 1) == short {
+            return i;
+        }
+        i -= 1;
+    }
+    0
+}
+
+// Rows with tags from least on.
+fn last_tag(rows: &[u8], until: usize, least: u32) -> usize
+    requires { ⌜ dataWidth * until ≤ length (now rows) ⌝ }
+    ensures { λ r. ⌜ Last (λ k. least ≤ tagOf (rowAt dataWidth k (now (rows .entry)))) until r ⌝ }
+{
+    let mut i = until;
+    while 16 <= i {
+        for j in 0..16 {
+            if least <= rows::tag_at(rows, i - 1 - j) {
+                return i - j;
+            }
+        }
+        i -= 16;
+    }
+    while 0 < i {
+        if least <= rows::tag_at(rows, i - 1) {
+            return i;
+        }
+        i -= 1;
+    }
+    0
+}
+
+// A row of that cell such that all rows from it on to until are of other cells or have tags below least.
+fn older(rows: &[u8], until: usize, least: u32, cell: u32) -> usize
+    requires { ⌜ dataWidth * until ≤ length (now rows) ⌝ }
+    ensures { λ r. ⌜ Older (now (rows .entry)) least cell until r ⌝ }
+{
+    last_cell(rows, last_tag(rows, until, least), cell)
+}
+
+// ---- committed rows that may overtake a version
+
+// The first committed row numbered least or above; entries where there is none.
+fn next_numbered(commits: &[u8], entries: usize, least: u32) -> usize
+    requires { ⌜ commitWidth * entries ≤ length (now commits) ⌝ }
+    ensures { λ r. ⌜ Next (λ k. least ≤ commitNumber (rowAt commitWidth k (now (commits .entry)))) 0 entries r ⌝ }
+{
+    let turns = entries / 16;
+    for t in 0..turns {
+        for j in 0..16 {
+            let i = 16 * t + j;
+            if least <= rows::commit_number_at(commits, i) {
+                return i;
+            }
+        }
+    }
+    let mut i = 16 * turns;
+    while i < entries {
+        if least <= rows::commit_number_at(commits, i) {
+            return i;
+        }
+        i += 1;
+    }
+    entries
+}
+
+// The smallest of the reader's number and the tags of the committed rows from row from on.
+fn least_tag(commits: &[u8], from: usize, entries: usize, tag: u32) -> u32
+    requires { ⌜ commitWidth * entries ≤ length (now commits) ⌝ }
+    ensures { λ r. ⌜ LeastTag (now (commits .entry)) from entries tag r ⌝ }
+{
+    let mut least = tag;
+    let mut i = from;
+    while i < entries {
+        let other = rows::commit_tag_at(commits, i);
+        if other < least {
+            least = other;
+        }
+        i += 1;
+    }
+    least
+}
+
+// The number that the transaction is committed under, if it is from least up to the snapshot. Committed rows before
+// row from are numbered below least.
+fn recent_commit(
+    commits: &[u8],
+    from: usize,
+    entries: usize,
+    tag: u32,
+    least: u32,
+    snapshot: u32,
+) -> Number
+    requires { ⌜ commitWidth * entries ≤ length (now commits) ⌝ }
+    requires { ⌜ from ≤ entries ⌝ }
+    requires { ⌜ NumberedBelow (now commits) from least ⌝ }
+    ensures { λ r. ⌜ r ≡ atLeast least (upTo snapshot (commitOf tag (commitRowsIn entries (now (commits .entry))))) ⌝ }
+{
+    let at = search::next_commit(commits, from, entries, tag);
+    if entries <= at {
+        return Number::None;
+    }
+    let number = rows::commit_number_at(commits, at);
+    if number < least {
+        return Number::None;
+    }
+    if snapshot < number {
+        return Number::None;
+    }
+    // of several committed rows with one tag the first alone counts
+    if search::next_commit(commits, 0, from, tag) < from {
+        return Number::None;
+    }
+    Number::Some(number)
+}
+
+// ---- Read
+
+// The first of the reader's own rows for the cell, where row k is one.
+fn own_version(rows: &[u8], k: usize, tag: u32, cell: u32) -> Lookup
+    requires { ⌜ dataWidth * k + 24 ≤ length (now rows) ⌝ }
+    requires { ⌜ tagOf (rowAt dataWidth k (now rows)) ≡ tag ⌝ }
+    requires { ⌜ cellOf (rowAt dataWidth k (now rows)) ≡ cell ⌝ }
+    ensures { λ r. ⌜ ((s n : ℕ) (cs : List Row) → k < n
+        → r ≡ lookFor tag cell s (dataRowsIn n (now (rows .entry))) cs) ⌝ }
+{
+    let own = search::own_row(rows, k, tag, cell);
+    match own {
+        Own::Row(at) => Lookup::Version { at, number: 0 },
+        Own::Rows(_) => Lookup::Version { at: k, number: 0 },
+    }
+}
+
+// The rows before row at, where that row under that number is what the rows from it on give.
+fn look_before(
+    rows: &[u8],
+    used: usize,
+    commits: &[u8],
+    entries: usize,
+    tag: u32,
+    cell: u32,
+    snapshot: u32,
+    at: usize,
+    number: u32,
+) -> Lookup
+    requires { ⌜ dataWidth * used ≤ length (now rows) ⌝ }
+    requires { ⌜ commitWidth * entries ≤ length (now commits) ⌝ }
+    requires { ⌜ at ≤ used ⌝ }
+    requires { ⌜ Seen tag cell snapshot used (now rows) (commitRowsIn entries (now commits)) at
+        (Lookup.Version at number) ⌝ }
+    ensures { λ r. ⌜ r ≡ lookFor tag cell snapshot (dataRowsIn used (now (rows .entry)))
+        (commitRowsIn entries (now (commits .entry))) ⌝ }
+{
+    let near = last_cell(rows, at, cell);
+    if near == 0 {
+        return Lookup::Version { at, number };
+    }
+    let from = next_numbered(commits, entries, number);
+    let least = least_tag(commits, from, entries, tag);
+    let mut best = Lookup::Version { at, number };
+    let mut i = older(rows, near, least, cell);
+    while 0 < i {
+        let k = i - 1;
+        let writer = rows::tag_at(rows, k);
+        if writer == tag {
+            return own_version(rows, k, tag, cell);
+        }
+        let found = recent_commit(commits, from, entries, writer, number, snapshot);
+        best = numbers::newer_of(k, found, best);
+        i = older(rows, k, least, cell);
+    }
+    best
+}
+
+// The row that a read finds: the reader's own, else the visible one.
+pub fn look_for(
+    rows: &[u8],
+    used: usize,
+    commits: &[u8],
+    entries: usize,
+    tag: u32,
+    cell: u32,
+    snapshot: u32,
+) -> Lookup
+    requires { ⌜ dataWidth * used ≤ length (now rows) ⌝ }
+    requires { ⌜ commitWidth * entries ≤ length (now commits) ⌝ }
+    ensures { λ r. ⌜ r ≡ lookFor tag cell snapshot (dataRowsIn used (now (rows .entry)))
+        (commitRowsIn entries (now (commits .entry))) ⌝ }
+{
+    let mut i = last_cell(rows, used, cell);
+    while 0 < i {
+        let k = i - 1;
+        let writer = rows::tag_at(rows, k);
+        if writer == tag {
+            return own_version(rows, k, tag, cell);
+        }
+        let found = numbers::up_to(snapshot, search::commit_of(commits, entries, writer));
+        match found {
+            Number::Some(number) => {
+                return look_before(
+                    rows,
+                    used,
+                    commits,
+                    entries,
+                    tag,
+                    cell,
+                    snapshot,
+                    k,
+                    number,
+                );
+            }
+            Number::None => {}
+        }
+        i = last_cell(rows, k, cell);
+    }
+    Lookup::Nothing
+}
