@@ -10,6 +10,7 @@ ghost use Rattle.trimming.specs.Inner.{Trimmed};
 ghost use Rattle.spec.specs.Orderly.{orderly};
 ghost use Rattle.spec.specs.Marked.{Marks, Worked};
 ghost use Rattle.serving.specs.Inner.{Judged, Used};
+use orderly::ENTRY_PLACES;
 use trimming::Remaining;
 
 // The rows that stay, where the bytes are orderly (false where they are not): committed rows are gone through from
@@ -41,7 +42,7 @@ fn from_newest(
         → Used low used entries (now (rows .entry)) (now (commits .entry)) 0 (now (uses .exit))) ⌝ }
 {
     let end = used as u16;
-    let mut firsts = [end; 4096];
+    let mut firsts = [end; ENTRY_PLACES];
     let mut follows = [0u16; 1024];
     if !orderly::link_all(rows, used, commits, entries, &mut firsts, &mut follows) {
         return false;

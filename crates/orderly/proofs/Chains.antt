@@ -14,18 +14,18 @@ use Rattle.orderly.specs.Inner.{Linked, Chain}
 use Rattle.orderly.proofs.Nexts.{next-none, next-here, next-past}
 
 module _ (key : ℕ → ℕ) (n : ℕ) where
-  pub linked-none : (nexts : List ℕ) → length nexts ≡ 1024 → Linked key n n (replicate 4096 n) nexts
-  linked-none nexts e =
+  pub linked-none : (p : ℕ) (nexts : List ℕ) → length nexts ≡ 1024 → Linked p key n n (replicate p n) nexts
+  linked-none p nexts e =
       record {
-        size = length-replicate {A = ℕ} 4096 n;
+        size = length-replicate {A = ℕ} p n;
         room = e;
-        head = λ x h. rw (getD-replicate {A = ℕ} 4096 x n 0 h) (next-none n);
+        head = λ x h. rw (getD-replicate {A = ℕ} p x n 0 h) (next-none n);
         next = λ k a b g. absurd (omega arith);
       }
 
-  pub linked-more : (heads nexts : List ℕ) (x k : ℕ) → x < 4096 → k < 1024 → k < n → key k ≡ x → Linked key n (k + 1) heads nexts
-      → Linked key n k (set heads x k) (set nexts k (getD heads x 0))
-  linked-more heads nexts x k a b h e l =
+  pub linked-more : {p : ℕ} (heads nexts : List ℕ) (x k : ℕ) → x < p → k < 1024 → k < n → key k ≡ x → Linked p key n (k + 1) heads nexts
+      → Linked p key n k (set heads x k) (set nexts k (getD heads x 0))
+  linked-more {p} heads nexts x k a b h e l =
       record {
         size = simp length-set (l .size);
         room = simp length-set (l .room);
@@ -34,17 +34,17 @@ module _ (key : ℕ → ℕ) (n : ℕ) where
         next = λ j g f r. next j g f r (ℕ-discrete j k);
       }
     where
-      head : (y : ℕ) → y < 4096 → Dec (y ≡ x) → Next (λ j. key j ≡ y) k n (getD (set heads x k) y 0)
+      head : (y : ℕ) → y < p → Dec (y ≡ x) → Next (λ j. key j ≡ y) k n (getD (set heads x k) y 0)
       head y g (yes q) = rw (q, getD-set-same heads x k 0 (omega (arith, l .size))) (next-here k h e)
       head y g (no q) = rw (getD-set-other heads x y k 0 q) (next-past k (getD heads y 0) (λ f. q (sym f ∙ e)) (l .head y g))
 
-      next : (j : ℕ) → k ≤ j → j < n → key j < 4096 → Dec (j ≡ k) → Next (λ i. key i ≡ key j) (j + 1) n (getD (set nexts k (getD heads x 0)) j 0)
+      next : (j : ℕ) → k ≤ j → j < n → key j < p → Dec (j ≡ k) → Next (λ i. key i ≡ key j) (j + 1) n (getD (set nexts k (getD heads x 0)) j 0)
       next j g f r (yes q) = rw (q, getD-set-same nexts k (getD heads x 0) 0 (omega (arith, l .room)), e) (l .head x a)
       next j g f r (no q) = rw (getD-set-other nexts k j (getD heads x 0) 0 q) (l .next j (omega (arith, q)) f r)
 
   -- a row that has no place is not linked
-  pub linked-less : (heads nexts : List ℕ) (k : ℕ) → 4096 ≤ key k → Linked key n (k + 1) heads nexts → Linked key n k heads nexts
-  linked-less heads nexts k b l =
+  pub linked-less : {p : ℕ} (heads nexts : List ℕ) (k : ℕ) → p ≤ key k → Linked p key n (k + 1) heads nexts → Linked p key n k heads nexts
+  linked-less {p} heads nexts k b l =
       record {
         size = l .size;
         room = l .room;
@@ -53,31 +53,29 @@ module _ (key : ℕ → ℕ) (n : ℕ) where
         next = λ j g f r. next j g f r (ℕ-discrete j k);
       }
     where
-      next : (j : ℕ) → k ≤ j → j < n → key j < 4096 → Dec (j ≡ k) → Next (λ i. key i ≡ key j) (j + 1) n (getD nexts j 0)
+      next : (j : ℕ) → k ≤ j → j < n → key j < p → Dec (j ≡ k) → Next (λ i. key i ≡ key j) (j + 1) n (getD nexts j 0)
       next j g f r (yes q) = absurd (omega (arith, rw q at r))
       next j g f r (no q) = l .next j (omega (arith, q)) f r
 
   module _ (nexts : List ℕ) where
-    pub chain-start : (heads : List ℕ) (x i : ℕ) → x < 4096 → Linked key n i heads nexts → Chain key n nexts x (getD heads x 0)
+    pub chain-start : {p : ℕ} (heads : List ℕ) (x i : ℕ) → x < p → Linked p key n i heads nexts → Chain key n nexts x (getD heads x 0)
     chain-start heads x i h l =
         record {
-          small = h;
           end = l .head x h .end;
           here = l .head x h .hit;
-          next = λ k a. l .next k (omega (arith, l .head x h .start));
+          next = λ k a b e. rw e at (l .next k (omega (arith, l .head x h .start)) b (rw e h));
         }
 
     module _ (x i : ℕ) (h : i < n) (m : Chain key n nexts x i) where
       -- the next row of the chain
-      chain-next : Next (λ j. key j ≡ key i) (i + 1) n (getD nexts i 0)
-      chain-next = m .next i (omega arith) h (omega (arith, m .here h, m .small))
+      chain-next : Next (λ j. key j ≡ x) (i + 1) n (getD nexts i 0)
+      chain-next = m .next i (omega arith) h (m .here h)
 
       pub chain-more : Chain key n nexts x (getD nexts i 0)
       chain-more =
           record {
-            small = m .small;
             end = chain-next .end;
-            here = λ l. chain-next .hit l ∙ m .here h;
+            here = chain-next .hit;
             next = λ k a. m .next k
                 (omega (arith, chain-next .start));
           }
@@ -86,15 +84,15 @@ module _ (key : ℕ → ℕ) (n : ℕ) where
       chain-rises = (omega (arith, chain-next .start), chain-next .end)
 
       pub chain-skip : {A : Type 0} (F : ℕ → A) → ((k : ℕ) → k < n → (key k ≡ x → ⊥) → F k ≡ F (k + 1)) → F (i + 1) ≡ F (getD nexts i 0)
-      chain-skip F same = skip F chain-next (λ k l ne. same k l (λ f. ne (f ∙ sym (m .here h))))
+      chain-skip F same = skip F chain-next same
 
-  pub head-skip : {A : Type 0} (F : ℕ → A) (heads nexts : List ℕ) (x i : ℕ) → x < 4096 → Linked key n i heads nexts →
+  pub head-skip : {A : Type 0} {p : ℕ} (F : ℕ → A) (heads nexts : List ℕ) (x i : ℕ) → x < p → Linked p key n i heads nexts →
       ((k : ℕ) → k < n → (key k ≡ x → ⊥) → F k ≡ F (k + 1)) → F i ≡ F (getD heads x 0)
   head-skip F heads nexts x i h l same = skip F (l .head x h) same
 
 module _ (key : ℕ → ℕ) (n : ℕ) (P : ℕ → Type 0) (nexts : List ℕ) (x : ℕ) (more : (k : ℕ) → k < n → (key k ≡ x → ⊥) → P k → P (k + 1)) where
   pub chain-carry : (i : ℕ) → i < n → Chain key n nexts x i → P (i + 1) → P (getD nexts i 0)
-  chain-carry i h m p = carry P (chain-next key n nexts x i h m) (λ k l ne. more k l (λ f. ne (f ∙ sym (m .here h)))) p
+  chain-carry i h m p = carry P (chain-next key n nexts x i h m) more p
 
-  pub head-carry : (heads : List ℕ) (i : ℕ) → x < 4096 → Linked key n i heads nexts → P i → P (getD heads x 0)
+  pub head-carry : {p : ℕ} (heads : List ℕ) (i : ℕ) → x < p → Linked p key n i heads nexts → P i → P (getD heads x 0)
   head-carry heads i h l p = carry P (l .head x h) more p

@@ -63,7 +63,7 @@ module _ (m : ℕ) (c s : List ℕ) (k : ℕ) where
 
 module _ (tag m : ℕ) (c : List ℕ) where
   -- rows of other places have other tags: the next row with the tag from the first one of its place on is the next from row i on
-  pub from-head : (heads nexts : List ℕ) (i r : ℕ) → place tag < 4096 → Linked (tagPlace c) m i heads nexts
+  pub from-head : (heads nexts : List ℕ) (i r : ℕ) → place tag < 4096 → Linked 4096 (tagPlace c) m i heads nexts
       → Next (λ k. commitTag (rowAt 8 k c) ≡ tag) (getD heads (place tag) 0) m r → Next (λ k. commitTag (rowAt 8 k c) ≡ tag) i m r
   from-head heads nexts i r h l p =
       record {

@@ -37,13 +37,14 @@ module _ (key : ℕ → ℕ) (x n : ℕ) where
         rest = λ j a b. f .rest j (omega arith) b;
       }
 
-  pub flagged-start : n ≤ 1024 → (first : ℕ) → Next (λ k. key k ≡ x) 0 n first → Flagged key x n (replicate 1024 0) first
-  flagged-start l first p =
-      carry (Flagged key x n (replicate 1024 0)) p (λ k h. past (replicate 1024 0) k (omega arith))
+  pub flagged-start : n ≤ 1024 → (flags : List ℕ) → flags ≡ replicate 1024 0 → (first : ℕ) → Next (λ k. key k ≡ x) 0 n first
+      → Flagged key x n flags first
+  flagged-start l flags q first p =
+      carry (Flagged key x n flags) p (λ k h. past flags k (omega arith))
       (record {
-        size = length-replicate {A = ℕ} 1024 0;
+        size = ap length q ∙ length-replicate {A = ℕ} 1024 0;
         done = λ k h. absurd (omega arith);
-        rest = λ k a b. getD-replicate {A = ℕ} 1024 k 0 0 b;
+        rest = λ k a b. ap (λ (f : List ℕ). getD f k 0) q ∙ getD-replicate {A = ℕ} 1024 k 0 0 b;
       })
 
   -- a row of the place, and on to the next one

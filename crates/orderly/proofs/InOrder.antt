@@ -9,7 +9,7 @@ use lib.Seq.{getD-set-same, getD-set-other}
 use native.Mathlib.Omega.{arith}
 use native.Mathlib.Decide.{ℕ-discrete}
 use Rattle.spec.specs.Rows.{rowAt, rowsIn, tagOf}
-use Rattle.orderly.specs.Inner.{entryOf, rowEntry, Linked}
+use Rattle.orderly.specs.Inner.{entryOf, rowEntry, entryPlaces, Linked}
 use Rattle.orderly.proofs.Nexts.{next-none}
 use Rattle.orderly.proofs.Chains.{linked-more}
 
@@ -25,11 +25,11 @@ pub record Along (n m : ℕ) (s c firsts follows : List ℕ) (at run last i : �
   pub end : i ≤ n
   pub met : at ≤ m
   pub place : run ≤ m
-  pub linked : Linked (rowEntry m c s) n i (set firsts run i) follows
+  pub linked : Linked entryPlaces (rowEntry m c s) n i (set firsts run i) follows
   pub same : (tag : ℕ) → tag < 4294967296 → tag ≡ last → entryOf tag (rowsIn 8 m c) ≡ run
 
 module _ (n m : ℕ) (s c : List ℕ) (small : n ≤ 1024) (few : m ≤ 1024) where
-  pub along-start : (firsts follows : List ℕ) → firsts ≡ replicate 4096 n → length follows ≡ 1024 → Along n m s c firsts follows m m 4294967296 n
+  pub along-start : (firsts follows : List ℕ) → firsts ≡ replicate entryPlaces n → length follows ≡ 1024 → Along n m s c firsts follows m m 4294967296 n
   along-start firsts follows q e =
       record {
         end = omega arith;
@@ -44,12 +44,12 @@ module _ (n m : ℕ) (s c : List ℕ) (small : n ≤ 1024) (few : m ≤ 1024) wh
         same = λ tag h f. absurd (omega arith);
       }
     where
-      size : length firsts ≡ 4096
-      size = ap length q ∙ length-replicate {A = ℕ} 4096 n
+      size : length firsts ≡ entryPlaces
+      size = ap length q ∙ length-replicate {A = ℕ} entryPlaces n
 
-      all : (x : ℕ) → x < 4096 → Dec (x ≡ m) → getD (set firsts m n) x 0 ≡ n
+      all : (x : ℕ) → x < entryPlaces → Dec (x ≡ m) → getD (set firsts m n) x 0 ≡ n
       all x h (yes f) = rw f (getD-set-same firsts m n 0 (omega (arith, size)))
-      all x h (no f) = getD-set-other firsts m x n 0 f ∙ ap (λ (l : List ℕ). getD l x 0) q ∙ getD-replicate {A = ℕ} 4096 x n 0 h
+      all x h (no f) = getD-set-other firsts m x n 0 f ∙ ap (λ (l : List ℕ). getD l x 0) q ∙ getD-replicate {A = ℕ} entryPlaces x n 0 h
 
   module _ (firsts follows : List ℕ) (at run last i : ℕ) (h : 0 < i) (m′ : Along n m s c firsts follows at run last i) where
     before : i - 1 + 1 ≡ i
@@ -61,8 +61,8 @@ module _ (n m : ℕ) (s c : List ℕ) (small : n ≤ 1024) (few : m ≤ 1024) wh
     along-same tag l e t =
         let room : run < length firsts = omega (arith, simp length-set at (m′ .linked .size), m′ .place) in
         let own : rowEntry m c s (i - 1) ≡ run = rw (← t) (m′ .same tag l e) in
-        let next = linked-more (rowEntry m c s) n (set firsts run i) follows run (i - 1) (omega (arith, m′ .place)) (omega (arith, m′ .end))
-        (omega (arith, m′ .end, h)) own (rw before (m′ .linked)) in
+        let next = linked-more (rowEntry m c s) n {p = entryPlaces} (set firsts run i) follows run (i - 1) (omega (arith, m′ .place))
+        (omega (arith, m′ .end)) (omega (arith, m′ .end, h)) own (rw before (m′ .linked)) in
         record {
           end = omega (arith, m′ .end);
           met = m′ .met;

@@ -22,7 +22,7 @@ use Rattle.orderly.proofs.Order.{displain, plain-large, plain-twice}
 -- from row i on the rows that are not committed are plain, and linked
 pub record Tested (n : ℕ) (s flags heads nexts : List ℕ) (i : ℕ) : Type 0 where
   pub end : i ≤ n
-  pub linked : Linked (openPlace flags s) n i heads nexts
+  pub linked : Linked 1024 (openPlace flags s) n i heads nexts
   pub plain : (k : ℕ) → i ≤ k → k < n → getD flags k 0 ≡ 1 → Sole n s k
 
 -- row k is not committed; its tag, its cell and its place are these
@@ -32,11 +32,11 @@ pub record OpenRow (n : ℕ) (s flags : List ℕ) (k tag cell x : ℕ) : Type 0 
   pub tag-is : tag ≡ tagOf (rowAt 24 k s)
   pub cell-is : cell ≡ cellOf (rowAt 24 k s)
   pub place-is : x ≡ pairPlace (place tag) cell
-  pub small : x < 4096
+  pub small : x < 1024
 
 module _ (n : ℕ) (s flags : List ℕ) where
-  pub tested-none : (nexts : List ℕ) → length nexts ≡ 1024 → Tested n s flags (replicate 4096 n) nexts n
-  tested-none nexts e = record { end = omega arith; linked = linked-none (openPlace flags s) n nexts e; plain = λ k a b. absurd (omega arith) }
+  pub tested-none : (nexts : List ℕ) → length nexts ≡ 1024 → Tested n s flags (replicate 1024 n) nexts n
+  tested-none nexts e = record { end = omega arith; linked = linked-none (openPlace flags s) n 1024 nexts e; plain = λ k a b. absurd (omega arith) }
 
   -- all are tested from the first one on
   pub tested-all : (heads nexts : List ℕ) (i first : ℕ) → i ≤ first → Tested n s flags heads nexts i → Next (λ k. getD flags k 0 ≡ 1) 0 n first
@@ -51,7 +51,7 @@ module _ (n : ℕ) (s flags : List ℕ) where
   open-place : (k : ℕ) → getD flags k 0 ≡ 1 → openPlace flags s k ≡ pairPlace (place (tagOf (rowAt 24 k s))) (cellOf (rowAt 24 k s))
   open-place k e = rw (eq-eqb (getD flags k 0) 1 e)
 
-  no-place : (k : ℕ) → (getD flags k 0 ≡ 1 → ⊥) → 4096 ≤ openPlace flags s k
+  no-place : (k : ℕ) → (getD flags k 0 ≡ 1 → ⊥) → 1024 ≤ openPlace flags s k
   no-place k ne = rw (ne-eqb (getD flags k 0) 1 ne) (omega arith)
 
   module _ (heads nexts : List ℕ) (k : ℕ) (t : Tested n s flags heads nexts (k + 1)) where
@@ -71,7 +71,7 @@ module _ (n : ℕ) (s flags : List ℕ) where
           plain = plain-too (λ e. absurd (ne e));
         }
 
-    pub tested-more : (heads′ nexts′ : List ℕ) → Linked (openPlace flags s) n k heads′ nexts′ → Sole n s k → Tested n s flags heads′ nexts′ k
+    pub tested-more : (heads′ nexts′ : List ℕ) → Linked 1024 (openPlace flags s) n k heads′ nexts′ → Sole n s k → Tested n s flags heads′ nexts′ k
     tested-more heads′ nexts′ l p = record { end = omega (arith, t .end); linked = l; plain = plain-too (λ e. p) }
 
     pub tested-large : 1024 ≤ cellOf (rowAt 24 k s) → orderlyRows (rowsIn 24 n s) ≡ false

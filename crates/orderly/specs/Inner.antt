@@ -16,23 +16,23 @@ use Rattle.spec.specs.Orderly.{orderlyRows}
 -- ---- Chains of rows by their places, for the inner functions' promises.
 
 -- Of n rows those from i on are linked: heads has the first one of each place, and nexts, of each row that has a place, the next one of its place;
--- n stands for none. `key k` is the place of row k, among 4,096; a row with a larger key has no place.
-pub record Linked (key : ℕ → ℕ) (n i : ℕ) (heads nexts : List ℕ) : Type 0 where
-  pub size : length heads ≡ 4096
+-- n stands for none. `key k` is the place of row k, among p; a row with a larger key has no place.
+pub record Linked (p : ℕ) (key : ℕ → ℕ) (n i : ℕ) (heads nexts : List ℕ) : Type 0 where
+  pub size : length heads ≡ p
   pub room : length nexts ≡ 1024
-  pub head : (x : ℕ) → x < 4096 → Next (λ k. key k ≡ x) i n (getD heads x 0)
-  pub next : (k : ℕ) → i ≤ k → k < n → key k < 4096 → Next (λ j. key j ≡ key k) (k + 1) n (getD nexts k 0)
+  pub head : (x : ℕ) → x < p → Next (λ k. key k ≡ x) i n (getD heads x 0)
+  pub next : (k : ℕ) → i ≤ k → k < n → key k < p → Next (λ j. key j ≡ key k) (k + 1) n (getD nexts k 0)
 
--- Row k, whose place is x, is put in front of the rows behind it, whatever the places of the others are.
+-- Row k, whose place is x, is put in front of the rows behind it, whatever the places of the others are, and however many there are.
 pub record Links (x k : ℕ) (heads nexts heads′ nexts′ : List ℕ) : Type 0 where
-  pub one : (key : ℕ → ℕ) (n : ℕ) → k < n → key k ≡ x → Linked key n (k + 1) heads nexts → Linked key n k heads′ nexts′
+  pub one : (p : ℕ) (key : ℕ → ℕ) (n : ℕ) → k < n → key k ≡ x → Linked p key n (k + 1) heads nexts → Linked p key n k heads′ nexts′
 
--- A walk over the rows whose place is x has come to row i: the row itself is one, where there is one, and from each row on nexts leads to the next.
+-- A walk over the rows whose place is x has come to row i: the row itself is one, where there is one, and from each such row on nexts leads to the
+-- next.
 pub record Chain (key : ℕ → ℕ) (n : ℕ) (nexts : List ℕ) (x i : ℕ) : Type 0 where
-  pub small : x < 4096
   pub end : i ≤ n
   pub here : i < n → key i ≡ x
-  pub next : (k : ℕ) → i ≤ k → k < n → key k < 4096 → Next (λ j. key j ≡ key k) (k + 1) n (getD nexts k 0)
+  pub next : (k : ℕ) → i ≤ k → k < n → key k ≡ x → Next (λ j. key j ≡ x) (k + 1) n (getD nexts k 0)
 
 -- ---- the places that rows are linked by
 
@@ -49,9 +49,13 @@ entryOf tag (c ∷ cs) = if eqb (commitTag c) tag then 0 else suc (entryOf tag c
 abbrev pub rowEntry : ℕ → List ℕ → List ℕ → ℕ → ℕ
 rowEntry m c s k = entryOf (tagOf (rowAt dataWidth k s)) (commitRowsIn m c)
 
+-- places for committed rows by their numbers, at most 1,024, and one for none
+abbrev pub entryPlaces : ℕ
+entryPlaces = 1040
+
 -- the data rows, all linked by their committed rows
 abbrev pub RowsLinked : ℕ → ℕ → List ℕ → List ℕ → List ℕ → List ℕ → Type 0
-RowsLinked n m s c firsts follows = Linked (rowEntry m c s) n 0 firsts follows
+RowsLinked n m s c firsts follows = Linked entryPlaces (rowEntry m c s) n 0 firsts follows
 
 -- ---- committed rows whose tags rise with their numbers
 
@@ -73,11 +77,11 @@ pub record IsBelow (c : List ℕ) (at tag : ℕ) : Type 0 where
 
 -- the place of a tag and a cell together, by the tag's place
 unfoldable pub pairPlace : ℕ → ℕ → ℕ
-pairPlace x cell = (x + cell * 611) % 4096
+pairPlace x cell = (x + cell * 611) % 1024
 
 -- data row k of s by its tag and cell where its transaction is not committed, which flags say; the others have no place
 abbrev pub openPlace : List ℕ → List ℕ → ℕ → ℕ
-openPlace flags s k = if eqb (getD flags k 0) 1 then pairPlace (place (tagOf (rowAt dataWidth k s))) (cellOf (rowAt dataWidth k s)) else 4096
+openPlace flags s k = if eqb (getD flags k 0) 1 then pairPlace (place (tagOf (rowAt dataWidth k s))) (cellOf (rowAt dataWidth k s)) else 1024
 
 -- data rows of one tag have the same flag
 pub record Alike (n : ℕ) (s flags : List ℕ) : Type 0 where

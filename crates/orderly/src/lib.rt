@@ -11,23 +11,25 @@ ghost use Rattle.places.specs.Inner.{place};
 ghost use Rattle.spec.specs.Orderly.{orderlyCommits};
 ghost use Rattle.orderly.specs.Inner.{tagPlace, entryOf, rowEntry, RowsLinked, pairPlace, Linked, Links};
 ghost use Rattle.orderly.specs.Inner.{Chain, Alike, PairWalk, OpenTest, Walk, SomeWalk, PlaceFlags};
-ghost use Rattle.orderly.specs.Inner.{TagWalk, SomeTagWalk, Rises, TagsRise, IsBelow};
+ghost use Rattle.orderly.specs.Inner.{TagWalk, SomeTagWalk, Rises, TagsRise, IsBelow, entryPlaces};
+
+// Places for the numbers of committed rows, and one for none.
+pub const ENTRY_PLACES: usize = 1040;
 
 // ---- chains: from each place, the rows whose key has that place, in their order
 
 // The place of a tag and a cell together, by the tag's place.
 fn pair_place(x: usize, cell: u32) -> usize
     requires { ⌜ x < 4096 ⌝ }
-    ensures { λ r. ⌜ (r ≡ pairPlace x cell) × (r < 4096) ⌝ }
+    ensures { λ r. ⌜ (r ≡ pairPlace x cell) × (r < 1024) ⌝ }
 {
-    (x + (cell as usize) * 611) % 4096
+    (x + (cell as usize) * 611) % 1024
 }
 
-// Puts row k, whose place is x, in front of the rows behind it.
-fn link(heads: &mut [u16; 4096], nexts: &mut [u16; 1024], x: usize, k: usize)
-    requires { ⌜ x < 4096 ⌝ }
+// Puts row k, whose place is x, in front of the rows behind it; heads has as many places as there are.
+fn link(heads: &mut [u16], nexts: &mut [u16; 1024], x: usize, k: usize)
+    requires { ⌜ x < length (now heads) ⌝ }
     requires { ⌜ k < 1024 ⌝ }
-    requires { ⌜ length (now heads) ≡ 4096 ⌝ }
     requires { ⌜ length (now nexts) ≡ 1024 ⌝ }
     ensures { λ _. ⌜ Links x k (now (heads .entry)) (now (nexts .entry)) (now (heads .exit)) (now (nexts .exit)) ⌝ }
 {
@@ -75,7 +77,7 @@ fn commits_orderly(
     requires { ⌜ length (now nexts) ≡ 1024 ⌝ }
     ensures { λ r. ⌜ r ≡ orderlyCommits (commitRowsIn entries (now (commits .entry))) ⌝ }
     ensures { λ r. ⌜ (r ≡ true
-        → Linked (tagPlace (now (commits .entry))) entries 0 (now (heads .exit)) (now (nexts .exit))) ⌝ }
+        → Linked 4096 (tagPlace (now (commits .entry))) entries 0 (now (heads .exit)) (now (nexts .exit))) ⌝ }
 {
     let mut above = 4294967296;
     let mut i = entries;
@@ -107,7 +109,7 @@ fn entry_of(
 ) -> usize
     requires { ⌜ commitWidth * entries ≤ length (now commits) ⌝ }
     requires { ⌜ entries ≤ 1024 ⌝ }
-    requires { ⌜ Linked (tagPlace (now commits)) entries 0 (now heads) (now nexts) ⌝ }
+    requires { ⌜ Linked 4096 (tagPlace (now commits)) entries 0 (now heads) (now nexts) ⌝ }
     ensures { λ r. ⌜ r ≡ entryOf tag (commitRowsIn entries (now (commits .entry))) ⌝ }
 {
     let x = places::place_of(tag);
@@ -126,7 +128,7 @@ fn entry_again(
 ) -> usize
     requires { ⌜ commitWidth * entries ≤ length (now commits) ⌝ }
     requires { ⌜ entries ≤ 1024 ⌝ }
-    requires { ⌜ Linked (tagPlace (now commits)) entries 0 (now heads) (now nexts) ⌝ }
+    requires { ⌜ Linked 4096 (tagPlace (now commits)) entries 0 (now heads) (now nexts) ⌝ }
     requires { ⌜ entry ≡ entryOf last (commitRowsIn entries (now commits)) ⌝ }
     ensures { λ r. ⌜ r ≡ entryOf tag (commitRowsIn entries (now (commits .entry))) ⌝ }
 {
@@ -145,7 +147,7 @@ fn link_rows(
     entries: usize,
     heads: &[u16; 4096],
     nexts: &[u16; 1024],
-    firsts: &mut [u16; 4096],
+    firsts: &mut [u16; ENTRY_PLACES],
     follows: &mut [u16; 1024],
 )
     requires { ⌜ dataWidth * used ≤ length (now rows) ⌝ }
@@ -153,8 +155,9 @@ fn link_rows(
     requires { ⌜ from ≤ used ⌝ }
     requires { ⌜ commitWidth * entries ≤ length (now commits) ⌝ }
     requires { ⌜ entries ≤ 1024 ⌝ }
-    requires { ⌜ Linked (tagPlace (now commits)) entries 0 (now heads) (now nexts) ⌝ }
-    requires { ⌜ Linked (rowEntry entries (now commits) (now rows)) used from (now firsts) (now follows) ⌝ }
+    requires { ⌜ Linked 4096 (tagPlace (now commits)) entries 0 (now heads) (now nexts) ⌝ }
+    requires { ⌜ Linked entryPlaces (rowEntry entries (now commits) (now rows)) used from (now firsts)
+        (now follows) ⌝ }
     ensures { λ _. ⌜ RowsLinked used entries (now (rows .entry)) (now (commits .entry)) (now (firsts .exit))
         (now (follows .exit)) ⌝ }
 {
@@ -254,7 +257,7 @@ fn link_in_order(
     used: usize,
     commits: &[u8],
     entries: usize,
-    firsts: &mut [u16; 4096],
+    firsts: &mut [u16; ENTRY_PLACES],
     follows: &mut [u16; 1024],
 ) -> usize
     requires { ⌜ dataWidth * used ≤ length (now rows) ⌝ }
@@ -262,10 +265,10 @@ fn link_in_order(
     requires { ⌜ commitWidth * entries ≤ length (now commits) ⌝ }
     requires { ⌜ entries ≤ 1024 ⌝ }
     requires { ⌜ TagsRise entries (now commits) ⌝ }
-    requires { ⌜ now firsts ≡ replicate 4096 used ⌝ }
+    requires { ⌜ now firsts ≡ replicate entryPlaces used ⌝ }
     requires { ⌜ length (now follows) ≡ 1024 ⌝ }
     ensures { λ r. ⌜ r ≤ used ⌝ }
-    ensures { λ r. ⌜ Linked (rowEntry entries (now (commits .entry)) (now (rows .entry))) used r
+    ensures { λ r. ⌜ Linked entryPlaces (rowEntry entries (now (commits .entry)) (now (rows .entry))) used r
         (now (firsts .exit)) (now (follows .exit)) ⌝ }
 {
     let mut at = entries;
@@ -303,14 +306,14 @@ pub fn link_all(
     used: usize,
     commits: &[u8],
     entries: usize,
-    firsts: &mut [u16; 4096],
+    firsts: &mut [u16; ENTRY_PLACES],
     follows: &mut [u16; 1024],
 ) -> bool
     requires { ⌜ dataWidth * used ≤ length (now rows) ⌝ }
     requires { ⌜ used ≤ 1024 ⌝ }
     requires { ⌜ commitWidth * entries ≤ length (now commits) ⌝ }
     requires { ⌜ entries ≤ 1024 ⌝ }
-    requires { ⌜ now firsts ≡ replicate 4096 used ⌝ }
+    requires { ⌜ now firsts ≡ replicate entryPlaces used ⌝ }
     requires { ⌜ length (now follows) ≡ 1024 ⌝ }
     ensures { λ r. ⌜ r ≡ orderlyCommits (commitRowsIn entries (now (commits .entry))) ⌝ }
     ensures { λ r. ⌜ (r ≡ true → RowsLinked used entries (now (rows .entry)) (now (commits .entry))
@@ -382,7 +385,7 @@ fn open_plain(rows: &[u8], used: usize, flags: &[u8; 1024], first: usize) -> boo
     ensures { λ r. ⌜ OpenTest (λ k. getD (now (flags .entry)) k 0) 1 used (now (rows .entry)) r ⌝ }
 {
     let none = used as u16;
-    let mut heads = [none; 4096];
+    let mut heads = [none; 1024];
     let mut nexts = [0u16; 1024];
     let mut i = used;
     while first < i {
@@ -405,21 +408,20 @@ fn open_plain(rows: &[u8], used: usize, flags: &[u8; 1024], first: usize) -> boo
     true
 }
 
-// Flags for the rows of the chain that starts at first.
-fn chain_flags(used: usize, follows: &[u16; 1024], first: usize) -> [u8; 1024]
+// Sets the flags of the rows of the chain that starts at first; all are 0 before.
+fn chain_flags(used: usize, follows: &[u16; 1024], first: usize, flags: &mut [u8; 1024])
     requires { ⌜ used ≤ 1024 ⌝ }
     requires { ⌜ length (now follows) ≡ 1024 ⌝ }
     requires { ⌜ SomeWalk used (now follows) first ⌝ }
-    ensures { λ r. ⌜ ((key : ℕ → ℕ) (x : ℕ) → Walk key x used (now (follows .entry)) first
-        → PlaceFlags key x used r) ⌝ }
+    requires { ⌜ now flags ≡ replicate 1024 0 ⌝ }
+    ensures { λ _. ⌜ ((key : ℕ → ℕ) (x : ℕ) → Walk key x used (now (follows .entry)) first
+        → PlaceFlags key x used (now (flags .exit))) ⌝ }
 {
-    let mut flags = [0u8; 1024];
     let mut i = first;
     while i < used {
         flags[i] = 1;
         i = follows[i] as usize;
     }
-    flags
 }
 
 // The test, where the rows that are not committed are a chain that starts at first, which is used where there is
@@ -433,7 +435,8 @@ pub fn open_plain_from(rows: &[u8], used: usize, follows: &[u16; 1024], first: u
         → OpenTest key x used (now (rows .entry)) r) ⌝ }
 {
     if first < used {
-        let flags = chain_flags(used, follows, first);
+        let mut flags = [0u8; 1024];
+        chain_flags(used, follows, first, &mut flags);
         return open_plain(rows, used, &flags, first);
     }
     true

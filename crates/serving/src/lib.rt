@@ -9,6 +9,7 @@ ghost use Rattle.spec.specs.Orderly.{orderlyCommits, orderlyRows};
 ghost use Rattle.orderly.specs.Inner.{RowsLinked};
 ghost use Rattle.spec.specs.Marked.{Marks};
 ghost use Rattle.serving.specs.Inner.{SoFar, Judged, Used};
+use orderly::ENTRY_PLACES;
 
 // Committed row j, where the rows behind it are done. Its data rows of cells that are marked already go, and its
 // other cells are marked with j + 1; a row numbered above low marks nothing. False where it comes to a cell above
@@ -20,7 +21,7 @@ fn serve(
     entries: usize,
     j: usize,
     low: u32,
-    firsts: &[u16; 4096],
+    firsts: &[u16; ENTRY_PLACES],
     follows: &[u16; 1024],
     seen: &mut [u16; 1024],
     marks: &mut [u16; 1024],
@@ -84,7 +85,7 @@ pub fn serve_all(
     commits: &[u8],
     entries: usize,
     low: u32,
-    firsts: &[u16; 4096],
+    firsts: &[u16; ENTRY_PLACES],
     follows: &[u16; 1024],
     seen: &mut [u16; 1024],
     marks: &mut [u16; 1024],

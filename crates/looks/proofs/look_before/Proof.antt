@@ -28,7 +28,7 @@ returns c =
     let cs = rowsIn 8 (a .entries) (a .commits .now) in
     let best = Version (a .at) (a .number) in
     seen-all (a .tag) (a .cell) (a .snapshot) (a .used) (a .rows .now) cs best
-    (seen-at (a .tag) (a .cell) (a .snapshot) (a .used) (a .rows .now) cs (c .before .last-cell .result) 0 best (c .if1 .taken)
+    (seen-at (a .tag) (a .cell) (a .snapshot) (a .used) (a .rows .now) cs (c .before .last-cell .result) 0 best (omega (arith, c .if1 .taken))
     (seen-past-cells (a .tag) (a .cell) (a .snapshot) (a .used) (a .rows .now) cs (a .at) (c .before .last-cell .result) best (start .pre .1 .1 .0)
     (c .before .last-cell .ensures) (start .pre .1 .1 .1)))
 

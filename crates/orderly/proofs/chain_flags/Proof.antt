@@ -21,12 +21,15 @@ rises : (c : tie.In-loop Inv-loop μ-loop)
     let i = c .before .loop .i in (i < getD (a .follows .now) i 0) × (getD (a .follows .now) i 0 ≤ a .used)
 rises c =
     let a = c .before .before .args in
-    let some = c .before .before .pre .1 .1 in
+    let some = c .before .before .pre .1 .1 .0 in
     chain-rises (some .key) (a .used) (a .follows .now) (some .at) (c .before .loop .i) (c .loop-test .taken)
     (c .before .loop .inv (some .key) (some .at) (some .walk) .0)
 
 loop-holds : tie.Need-loop-holds Inv-loop μ-loop
-loop-holds c = λ key x w. (w .chain, flagged-start key x (c .args .used) (c .pre .0) (c .args .first) (w .start))
+loop-holds c = λ key x w. (
+  w .chain,
+  flagged-start key x (c .args .used) (c .pre .0) (c .args .flags .now) (c .pre .1 .1 .1) (c .args .first) (w .start),
+)
 
 cast-i : tie.Need-cast-i Inv-loop μ-loop
 cast-i c = omega (arith, rises (c .before), c .before .before .before .pre .0)

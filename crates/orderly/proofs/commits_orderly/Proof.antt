@@ -21,7 +21,7 @@ use Rattle.orderly.proofs.commits_orderly.Tie as tie
 
 abbrev Inv-loop : tie.InvT-loop
 Inv-loop rows entries heads₀ nexts₀ above₀ i₀ heads nexts above i =
-    (i ≤ entries) × Linked (tagPlace rows) entries i heads nexts
+    (i ≤ entries) × Linked 4096 (tagPlace rows) entries i heads nexts
     × (orderlyCommits (rowsFrom 8 entries i rows) ≡ true)
     × ((v : ℕ) → v < 4294967296 → under v (rowsFrom 8 entries i rows) ≡ ltb v above)
 
@@ -33,7 +33,7 @@ loop-holds c =
     let a = c .before .args in
     let pre = c .before .pre in (
       omega arith,
-      rw (pre .1 .1 .0) (linked-none (tagPlace (a .commits .now)) (a .entries) (a .nexts .now) (pre .1 .1 .1)),
+      rw (pre .1 .1 .0) (linked-none (tagPlace (a .commits .now)) (a .entries) 4096 (a .nexts .now) (pre .1 .1 .1)),
       order-end (a .entries) (a .commits .now),
       λ v h. under-end (a .entries) (a .commits .now) v ∙ sym (lt-ltb v 4294967296 h),
     )
@@ -113,7 +113,7 @@ link-requires c κs =
     let loop = c .before .before .before .before .before .before .before .before .before .before .before .loop in
     let h = inside (c .before .before .before .before .before .before) in
     let at = c .before .before .before .before .before .before .place-of in
-    (at .ensures .1, (omega (arith, h, start .pre .1 .0), (loop .inv .1 .size, loop .inv .1 .room)))
+    (rw (loop .inv .1 .size) (at .ensures .1), (omega (arith, h, start .pre .1 .0), loop .inv .1 .room))
 
 loop-again : tie.Need-loop-again Inv-loop μ-loop
 loop-again c =
@@ -132,7 +132,7 @@ loop-again c =
     ∙ lt-ltb (number .result) (loop .above)
     (omega (arith, c .before .before .before .before .before .before .before .before .before .if1 .left))) in (
       omega (arith, loop .inv .0),
-      c .link .ensures .one (tagPlace (a .commits .now)) (a .entries) h (sym (at .ensures .0 ∙ ap place (tag .ensures))) (rw z (loop .inv .1)),
+      c .link .ensures .one 4096 (tagPlace (a .commits .now)) (a .entries) h (sym (at .ensures .0 ∙ ap place (tag .ensures))) (rw z (loop .inv .1)),
       order-more (a .entries) (a .commits .now) (loop .i - 1) h low
           (again searched ∙ le-ltb (searched .chained-entry .result) (a .entries) (c .before .before .before .if2 .left)) (rw z (loop .inv .2)),
       λ v l. under-step (a .entries) (a .commits .now) v (loop .i - 1) h ∙ rw (number .ensures),

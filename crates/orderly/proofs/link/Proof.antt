@@ -8,11 +8,14 @@ returns : tie.Need-returns
 returns c =
     let start = c .before in
     let a = start .args in
-    record { one = λ key n h e l. linked-more key n (a .heads .now) (a .nexts .now) (a .x) (a .k) (start .pre .0) (start .pre .1 .0) h e l }
+    record {
+      one = λ p key n h e l.
+          linked-more key n (a .heads .now) (a .nexts .now) (a .x) (a .k) (rw (l .size) at (start .pre .0)) (start .pre .1 .0) h e l;
+    }
 
 pub link-spec : {M : Type 1} → statement M
 link-spec =
     tie.close
     (tie.spec
     (λ c. search needs) (λ c. search needs) (λ c. search needs) (λ c. search needs) (λ c. search needs) (λ c. search needs)
-    (λ c. search needs) returns)
+    (λ c. search needs) (λ c. search needs) returns)

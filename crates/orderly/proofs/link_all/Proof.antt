@@ -4,7 +4,7 @@ use mathlib.Core.Path.{refl, sym, _∙_}
 use mathlib.Core.Logic.{⊎-elim}
 use borrow.Author.Tests.{not-true, not-false}
 use native.Mathlib.Omega.{arith}
-use Rattle.orderly.specs.Inner.{rowEntry, Linked}
+use Rattle.orderly.specs.Inner.{rowEntry, entryPlaces, Linked}
 use Rattle.orderly.proofs.Chains.{linked-none}
 use Rattle.orderly.proofs.Order.{differ}
 use Rattle.orderly.proofs.TagsRise.{rising-order}
@@ -16,7 +16,7 @@ use Rattle.orderly.proofs.link_all.Tie as tie
 linked : (c : tie.Joined1)
     → let a = c .before .before .before .before .args in
     (c .if1 .from ≤ a .used)
-    × Linked (rowEntry (a .entries) (a .commits .now) (a .rows .now)) (a .used) (c .if1 .from) (c .if1 .firsts) (c .if1 .follows)
+    × Linked entryPlaces (rowEntry (a .entries) (a .commits .now) (a .rows .now)) (a .used) (c .if1 .from) (c .if1 .firsts) (c .if1 .follows)
 linked c =
     let start = c .before .before .before .before in
     let a = start .args in
@@ -25,7 +25,7 @@ linked c =
     (λ v. (rw (v .7) (v .3 .ensures .0), rw (v .5, v .6, v .7) (v .3 .ensures .1)))
     (λ v. (
       omega (arith, v .3),
-      rw (v .1, v .2, v .3, pre .0) (linked-none (rowEntry (a .entries) (a .commits .now) (a .rows .now)) (a .used) (a .follows .now) (pre .1)),
+      rw (v .1, v .2, v .3, pre .0) (linked-none (rowEntry (a .entries) (a .commits .now) (a .rows .now)) (a .used) entryPlaces (a .follows .now) (pre .1)),
     ))
     (c .if1 .came)
 

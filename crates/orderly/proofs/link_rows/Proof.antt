@@ -3,7 +3,7 @@ use Prim.Native.Nat.{ℕ, _+_, _-_, _≤_, _<_}
 use mathlib.Core.Path.{_≡_, sym, ap, _∙_}
 use native.Mathlib.Omega.{arith}
 use Rattle.spec.specs.Rows.{rowsIn}
-use Rattle.orderly.specs.Inner.{entryOf, rowEntry, Linked}
+use Rattle.orderly.specs.Inner.{entryOf, rowEntry, entryPlaces, Linked}
 use Rattle.orderly.proofs.Entries.{entry-next}
 use borrow.Author.Needs.{needs}
 use Rattle.orderly.proofs.link_rows.Statement.{statement}
@@ -11,7 +11,7 @@ use Rattle.orderly.proofs.link_rows.Tie as tie
 
 abbrev Inv-loop : tie.InvT-loop
 Inv-loop rows used from commits entries heads nexts firsts₀ follows₀ last₀ at₀ i₀ firsts follows last at i =
-    (i ≤ used) × Linked (rowEntry entries commits rows) used i firsts follows × (at ≡ entryOf last (rowsIn 8 entries commits))
+    (i ≤ used) × Linked entryPlaces (rowEntry entries commits rows) used i firsts follows × (at ≡ entryOf last (rowsIn 8 entries commits))
 
 abbrev μ-loop : tie.MeasureT-loop
 μ-loop rows used from commits entries heads nexts firsts₀ follows₀ last₀ at₀ i₀ firsts follows last at i = i
@@ -37,8 +37,8 @@ link-requires : tie.Need-link-requires Inv-loop μ-loop
 link-requires c κs =
     let start = c .before .before .before .before .before .before .before .before .before in
     let loop = c .before .before .before .before .before .loop in (
-      omega (arith, small (c .before .before), start .pre .1 .1 .1 .1 .0),
-      (omega (arith, inside (c .before .before .before .before), start .pre .1 .0), (loop .inv .1 .size, loop .inv .1 .room)),
+      omega (arith, small (c .before .before), start .pre .1 .1 .1 .1 .0, loop .inv .1 .size),
+      (omega (arith, inside (c .before .before .before .before), start .pre .1 .0), loop .inv .1 .room),
     )
 
 loop-again : tie.Need-loop-again Inv-loop μ-loop
@@ -51,7 +51,7 @@ loop-again c =
     let right : again .result ≡ rowEntry (a .entries) (a .commits .now) (a .rows .now) (loop .i - 1) =
     again .ensures ∙ ap (λ (t : ℕ). entryOf t (rowsIn 8 (a .entries) (a .commits .now))) (c .before .before .before .before .tag-at .ensures) in (
       omega (arith, loop .inv .0),
-      c .link .ensures .one (rowEntry (a .entries) (a .commits .now) (a .rows .now)) (a .used) h (sym right) (rw z (loop .inv .1)),
+      c .link .ensures .one entryPlaces (rowEntry (a .entries) (a .commits .now) (a .rows .now)) (a .used) h (sym right) (rw z (loop .inv .1)),
       again .ensures,
     )
 

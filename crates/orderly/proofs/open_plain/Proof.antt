@@ -102,25 +102,25 @@ link-requires c κs =
     let start = c .before .before .before .before .before .before .before .before .before .before .before .before .before .before .before in
     let loop = c .before .before .before .before .before .before .before .before .before .before .before .before .before .loop in
     let pair = c .before .before .before .before .before .pair-place in
-    (pair .ensures .1, (omega (arith, loop .inv .end, start .pre .1 .0), (loop .inv .linked .size, loop .inv .linked .room)))
+    (rw (loop .inv .linked .size) (pair .ensures .1), (omega (arith, loop .inv .end, start .pre .1 .0), loop .inv .linked .room))
 
 loop-again : tie.Need-loop-again Inv-loop μ-loop
 loop-again c =
-    let a = c .before .before .before .before .before .before .before .before .before .before .before .before .before .before .before .before .args in
-    let inside = c .before .before .before .before .before .before .before .before .before .before .before .before .before in
+    let inside = c .before .before .before .before .before .before .before .before .before .before .before .before .before .before in
+    let a = inside .before .before .before .args in
     let loop = inside .before .loop in
-    let pair = c .before .before .before .before .before .before in
-    let own = c .before .before .before .before .own-chained in
+    let pair = c .before .before .before .before .before .before .before in
+    let own = c .before .before .before .before .before .own-chained in
     let tag = pair .before .before .tag-at .result in
     let cell = pair .before .before .before .before .cell-at .result in
     let x = pair .pair-place .result in
     let t = tested inside in
-    tested-more (a .used) (a .rows .now) (a .flags .now) (loop .heads) (loop .nexts) (loop .i - 1) t (c .link .last .0)
-    (c .link .last .1 .0)
-    (c .link .ensures .one (openPlace (a .flags .now) (a .rows .now)) (a .used) (omega (arith, t .end))
+    tested-more (a .used) (a .rows .now) (a .flags .now) (loop .heads) (loop .nexts) (loop .i - 1) t (c .before .link .last .0)
+    (c .before .link .last .1 .0)
+    (c .before .link .ensures .one 1024 (openPlace (a .flags .now) (a .rows .now)) (a .used) (omega (arith, t .end))
     (open-at (a .used) (a .rows .now) (a .flags .now) (loop .heads) (loop .nexts) (loop .i - 1) t tag cell x (row pair)) (t .linked))
     (open-alone (a .used) (a .rows .now) (a .flags .now) (loop .heads) (loop .nexts) (loop .i - 1) t tag cell x (row pair)
-    (own .result) (own .ensures) (pair .before .before .before .if2 .left) (c .before .before .before .if3 .left))
+    (own .result) (own .ensures) (pair .before .before .before .if2 .left) (c .before .before .before .before .if3 .left))
 
 loop-again-2 : tie.Need-loop-again-2 Inv-loop μ-loop
 loop-again-2 c =
@@ -148,4 +148,5 @@ open-plain-spec =
     (tie.spec Inv-loop μ-loop (λ c. search needs) loop-holds (λ c. search needs) (λ c. search needs)
     (λ c κs. search needs) returns (λ c κs. search needs) (λ c κs. search needs) (λ c κs. c .place-of .ensures .1) (λ c. search needs)
     (λ c. search needs)
-    cast-own-chained own-chained-requires returns-2 link-requires (λ c. search needs) loop-again (λ c. search needs) loop-again-2 returns-3)
+    cast-own-chained own-chained-requires returns-2 (λ c. search needs) link-requires (λ c. search needs) loop-again
+    (λ c. search needs) loop-again-2 returns-3)

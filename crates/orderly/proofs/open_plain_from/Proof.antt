@@ -8,12 +8,13 @@ use Rattle.orderly.proofs.open_plain_from.Tie as tie
 
 chain-flags-requires : tie.Need-chain-flags-requires
 chain-flags-requires c κs =
-    let some = c .before .before .pre .1 .1 .1 in
-    (c .before .before .pre .1 .0, (c .before .before .pre .1 .1 .0, record { key = some .key; at = some .at; walk = some .walk .walk }))
+    let pre = c .before .before .before .pre in
+    let some = pre .1 .1 .1 in
+    (pre .1 .0, (pre .1 .1 .0, (record { key = some .key; at = some .at; walk = some .walk .walk }, refl)))
 
 open-plain-requires : tie.Need-open-plain-requires
 open-plain-requires c κs =
-    let start = c .before .before .before .before in
+    let start = c .before .before .before .before .before in
     let a = start .args in
     let some = start .pre .1 .1 .1 in
     let flagged = c .before .chain-flags .ensures (some .key) (some .at) (some .walk .walk) in (
@@ -29,7 +30,7 @@ open-plain-requires c κs =
 
 returns : tie.Need-returns
 returns c =
-    let a = c .before .before .before .before .before .args in
+    let a = c .before .before .before .before .before .before .args in
     λ key x w. flags-test key x (a .used) _ (c .before .before .chain-flags .ensures key x (w .walk)) (a .rows .now) _ (c .open-plain .ensures)
 
 returns-2 : tie.Need-returns-2

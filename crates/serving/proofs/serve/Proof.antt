@@ -9,7 +9,7 @@ use lib.Dec.{leb}
 use borrow.Author.Tests.{le-leb, lt-leb}
 use native.Mathlib.Omega.{arith}
 use Rattle.spec.specs.Rows.{rowAt, rowsIn, tagOf, cellOf, commitTag, commitNumber}
-use Rattle.orderly.specs.Inner.{rowEntry, Chain}
+use Rattle.orderly.specs.Inner.{rowEntry, entryPlaces, Chain}
 use Rattle.spec.specs.Orderly.{orderlyCommits, orderlyRows}
 use Rattle.orderly.proofs.Chains.{chain-start, chain-more, chain-rises, chain-carry, head-carry}
 use Rattle.orderly.proofs.Order.{differ, displain, plain-large}
@@ -157,7 +157,7 @@ loop-holds c =
     let start = c .before .before .before .before in
     let a = start .args in
     let pre = start .pre .1 .1 .1 .1 in
-    let small : a .j < 4096 = omega (arith, pre .1 .0, start .pre .1 .1 .1 .0) in
+    let small : a .j < entryPlaces = omega (arith, pre .1 .0, start .pre .1 .1 .1 .0) in
     let known = pre .1 .1 .1 .1 in
     let counts = leb (commitNumber (rowAt 8 (a .j) (a .commits .now))) (a .low) in (
       chain-start (rowEntry (a .entries) (a .commits .now) (a .rows .now)) (a .used) (a .follows .now) (a .firsts .now) (a .j) 0 small (pre .1 .1 .0),
