@@ -63,9 +63,10 @@ returns-4 c =
     let a = start .args in
     let first = c .before .next-commit2 .result in
     let pass = c .before .next-commit2 .ensures in
-    sym (first-outside (a .least) (a .snapshot) (a .tag) (a .entries) (a .commits .now) first (omega (arith, c .if4 .taken, start .pre .1 .0))
-    (pass .hit (c .if4 .taken)) (λ k b e. absurd (pass .misses k (omega arith) b e))
-    (too-small (a .least) (a .snapshot) (commitNumber (rowAt 8 first (a .commits .now))) (start .pre .1 .1 first (c .if4 .taken))))
+    let h : first < a .from = omega (arith, c .if4 .taken) in
+    sym (first-outside (a .least) (a .snapshot) (a .tag) (a .entries) (a .commits .now) first (omega (arith, h, start .pre .1 .0)) (pass .hit h)
+    (λ k b e. absurd (pass .misses k (omega arith) b e))
+    (too-small (a .least) (a .snapshot) (commitNumber (rowAt 8 first (a .commits .now))) (start .pre .1 .1 first h)))
 
 returns-5 : tie.Need-returns-5
 returns-5 c =
