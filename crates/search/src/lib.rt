@@ -3,14 +3,14 @@ ghost use mathlib.Core.Path.{_≡_};
 ghost use mathlib.Core.Bool.{true, _&&_};
 ghost use Prim.Native.Nat.{_+_, _*_, _≤_, _<_};
 ghost use lib.Dec.{eqb, ltb};
-ghost use lib.ListN.{length, set};
+ghost use lib.ListN.{length, set, replicate};
 ghost use Rattle.spec.specs.Set.{clients, member, insert};
 ghost use Rattle.spec.specs.Choice.{if_then_else_};
 ghost use Rattle.spec.specs.Rows.{dataWidth, commitWidth, dataRowsIn, commitRowsIn, rowAt, rowsFrom, tagOf};
 ghost use Rattle.spec.specs.Rows.{cellOf, commitNumber, commitTag, hasTag};
 ghost use Rattle.spec.specs.Look.{commitOf};
 ghost use Rattle.spec.specs.Share.{any, wrote, cellsOf, conflict};
-ghost use Rattle.search.specs.Inner.{ownOf, sharersOf, mayHave, Joined, Next, WrittenMarks};
+ghost use Rattle.search.specs.Inner.{ownOf, sharersOf, mayHave, Joined, Next, Last, WrittenMarks};
 use spec::CLIENTS;
 use spec::Number;
 use spec::Set;
@@ -22,23 +22,23 @@ pub enum Own {
 }
 
 // ---- the passes: the next row, from row from on, with a tag; used where there is none. The inner loops have
-// a fixed length and are written out by the compiler: the outer one's own steps are shared by eight rows or sixteen.
+// a fixed length and are written out by the compiler: the outer one's own steps are shared by eight rows or more.
 
 pub fn next_tag(rows: &[u8], from: usize, used: usize, tag: u32) -> usize
     requires { ⌜ dataWidth * used ≤ length (now rows) ⌝ }
     requires { ⌜ from ≤ used ⌝ }
     ensures { λ r. ⌜ Next (λ k. tagOf (rowAt dataWidth k (now (rows .entry))) ≡ tag) from used r ⌝ }
 {
-    let turns = (used - from) / 8;
+    let turns = (used - from) / 16;
     for t in 0..turns {
-        for j in 0..8 {
-            let i = from + 8 * t + j;
+        for j in 0..16 {
+            let i = from + 16 * t + j;
             if rows::tag_at(rows, i) == tag {
                 return i;
             }
         }
     }
-    let mut i = from + 8 * turns;
+    let mut i = from + 16 * turns;
     while i < used {
         if rows::tag_at(rows, i) == tag {
             return i;
@@ -46,6 +46,38 @@ pub fn next_tag(rows: &[u8], from: usize, used: usize, tag: u32) -> usize
         i += 1;
     }
     used
+}
+
+// From the end: 1 more than the last row before row until with a tag, 0 where there is none. An open transaction's
+// rows are among the newest.
+fn last_tagged(rows: &[u8], until: usize, tag: u32) -> usize
+    requires { ⌜ dataWidth * until ≤ length (now rows) ⌝ }
+    ensures { λ r. ⌜ Last (λ k. tagOf (rowAt dataWidth k (now (rows .entry))) ≡ tag) until r ⌝ }
+{
+    let mut i = until;
+    while 32 <= i {
+        for j in 0..32 {
+            if rows::tag_at(rows, i - 1 - j) == tag {
+                return i - j;
+            }
+        }
+        i -= 32;
+    }
+    while 8 <= i {
+        for j in 0..8 {
+            if rows::tag_at(rows, i - 1 - j) == tag {
+                return i - j;
+            }
+        }
+        i -= 8;
+    }
+    while 0 < i {
+        if rows::tag_at(rows, i - 1) == tag {
+            return i;
+        }
+        i -= 1;
+    }
+    0
 }
 
 // The first committed row, from row from on, with that tag; entries where there is none.
@@ -87,21 +119,12 @@ pub fn commit_of(commits: &[u8], entries: usize, tag: u32) -> Number
 
 // ---- a transaction's own rows
 
-// Whether the transaction has a row, looked for from the end: an open transaction's rows are among the newest.
+// Whether the transaction has a row.
 pub fn has_rows(rows: &[u8], used: usize, tag: u32) -> bool
     requires { ⌜ dataWidth * used ≤ length (now rows) ⌝ }
     ensures { λ r. ⌜ r ≡ any (hasTag tag) (dataRowsIn used (now (rows .entry))) ⌝ }
 {
-    let mut i = used;
-    while 32 <= i {
-        for j in 0..32 {
-            if rows::tag_at(rows, i - 1 - j) == tag {
-                return true;
-            }
-        }
-        i -= 32;
-    }
-    next_tag(rows, 0, i, tag) < i
+    0 < last_tagged(rows, used, tag)
 }
 
 // The transaction's row for a cell, or how many rows it has, in one pass.
@@ -137,35 +160,6 @@ fn wrote_from(rows: &[u8], from: usize, used: usize, tag: u32, cell: u32) -> boo
     false
 }
 
-// 1 if no later row of the transaction has row i's cell.
-fn last_of_cell(rows: &[u8], i: usize, used: usize, tag: u32) -> usize
-    requires { ⌜ dataWidth * used ≤ length (now rows) ⌝ }
-    requires { ⌜ i < used ⌝ }
-    ensures { λ r. ⌜ r
-        ≡ (if wrote (rowsFrom dataWidth used (i + 1) (now (rows .entry)))
-        tag (cellOf (rowAt dataWidth i (now (rows .entry)))) then 0 else 1) ⌝ }
-{
-    if wrote_from(rows, i + 1, used, tag, rows::cell_at(rows, i)) {
-        0
-    } else {
-        1
-    }
-}
-
-// How many cells the transaction wrote.
-pub fn count_cells(rows: &[u8], used: usize, tag: u32) -> usize
-    requires { ⌜ dataWidth * used ≤ length (now rows) ⌝ }
-    ensures { λ r. ⌜ r ≡ cellsOf tag (dataRowsIn used (now (rows .entry))) ⌝ }
-{
-    let mut n: usize = 0;
-    let mut i = next_tag(rows, 0, used, tag);
-    while i < used {
-        n += last_of_cell(rows, i, used, tag);
-        i = next_tag(rows, i + 1, used, tag);
-    }
-    n
-}
-
 // ---- cells that a transaction wrote, and who shares one
 
 // Notes a cell below 1,024.
@@ -178,18 +172,18 @@ fn mark(marks: &mut [u8; 1024], cell: u32)
     }
 }
 
-// For each cell below 1,024 whether the transaction wrote it.
-fn cells_of(rows: &[u8], used: usize, tag: u32) -> [u8; 1024]
+// Notes for each cell below 1,024 whether the transaction wrote it.
+fn mark_cells(marks: &mut [u8; 1024], rows: &[u8], used: usize, tag: u32)
     requires { ⌜ dataWidth * used ≤ length (now rows) ⌝ }
-    ensures { λ r. ⌜ WrittenMarks r (dataRowsIn used (now (rows .entry))) tag ⌝ }
+    requires { ⌜ now marks ≡ replicate 1024 0 ⌝ }
+    ensures { λ _. ⌜ WrittenMarks (now (marks .exit)) (dataRowsIn used (now (rows .entry))) tag ⌝ }
 {
-    let mut marks = [0u8; 1024];
-    let mut i = next_tag(rows, 0, used, tag);
-    while i < used {
-        mark(&mut marks, rows::cell_at(rows, i));
-        i = next_tag(rows, i + 1, used, tag);
+    let mut i = last_tagged(rows, used, tag);
+    while 0 < i {
+        let k = i - 1;
+        mark(marks, rows::cell_at(rows, k));
+        i = last_tagged(rows, k, tag);
     }
-    marks
 }
 
 // Whether the transaction wrote the cell, by its marks; cells above 1,023 are looked for in the rows.
@@ -202,6 +196,50 @@ fn has_written(marks: &[u8; 1024], rows: &[u8], used: usize, tag: u32, cell: u32
         return marks[cell as usize] == 1;
     }
     wrote_from(rows, 0, used, tag, cell)
+}
+
+// 1 if no later row of the transaction has row k's cell, which is marked then; a cell above 1,023 is looked for in
+// the later rows.
+fn count_cell(marks: &mut [u8; 1024], rows: &[u8], k: usize, used: usize, tag: u32) -> usize
+    requires { ⌜ dataWidth * used ≤ length (now rows) ⌝ }
+    requires { ⌜ k < used ⌝ }
+    requires { ⌜ tagOf (rowAt dataWidth k (now rows)) ≡ tag ⌝ }
+    requires { ⌜ WrittenMarks (now marks) (rowsFrom dataWidth used (k + 1) (now rows)) tag ⌝ }
+    ensures { λ r. ⌜ WrittenMarks (now (marks .exit)) (rowsFrom dataWidth used k (now (rows .entry))) tag ⌝ }
+    ensures { λ r. ⌜ r
+        ≡ (if wrote (rowsFrom dataWidth used (k + 1) (now (rows .entry)))
+        tag (cellOf (rowAt dataWidth k (now (rows .entry)))) then 0 else 1) ⌝ }
+{
+    let cell = rows::cell_at(rows, k);
+    if cell < 1024 {
+        let seen = marks[cell as usize];
+        marks[cell as usize] = 1;
+        if seen == 1 {
+            return 0;
+        }
+        return 1;
+    }
+    if wrote_from(rows, k + 1, used, tag, cell) {
+        0
+    } else {
+        1
+    }
+}
+
+// How many cells the transaction wrote, from its last row to its first.
+pub fn count_cells(rows: &[u8], used: usize, tag: u32) -> usize
+    requires { ⌜ dataWidth * used ≤ length (now rows) ⌝ }
+    ensures { λ r. ⌜ r ≡ cellsOf tag (dataRowsIn used (now (rows .entry))) ⌝ }
+{
+    let mut marks = [0u8; 1024];
+    let mut n: usize = 0;
+    let mut i = last_tagged(rows, used, tag);
+    while 0 < i {
+        let k = i - 1;
+        n += count_cell(&mut marks, rows, k, used, tag);
+        i = last_tagged(rows, k, tag);
+    }
+    n
 }
 
 // Whether the transaction may have written row i's cell: a marked one, or one above 1,023, which has no mark.
@@ -277,7 +315,8 @@ pub fn sharers(rows: &[u8], used: usize, tag: u32, numbers: &[u32; CLIENTS], que
     if queued == 0 {
         return 0;
     }
-    let marks = cells_of(rows, used, tag);
+    let mut marks = [0u8; 1024];
+    mark_cells(&mut marks, rows, used, tag);
     let mut found: Set = 0;
     let mut i = next_marked(&marks, rows, 0, used);
     while i < used {
@@ -325,7 +364,8 @@ pub fn conflict(
     if !any_above(commits, entries, snapshot) {
         return Number::None;
     }
-    let marks = cells_of(rows, used, tag);
+    let mut marks = [0u8; 1024];
+    mark_cells(&mut marks, rows, used, tag);
     let mut best = Number::None;
     let mut i = next_marked(&marks, rows, 0, used);
     while i < used {

@@ -28,15 +28,15 @@ returns c = sym (conflict-none _ _ _ _ (sym (c .before .any-above .ensures) ∙ 
 loop-holds : tie.Need-loop-holds Inv-loop μ-loop
 loop-holds c =
     let cells = c .before .before in
-    let a = cells .before .before .before .before .before .args in
+    let a = cells .before .before .before .before .before .before .args in
     let cs = rowsIn 8 (a .entries) (a .commits .now) in
     clash-start (a .tag) (a .snapshot) (a .used) (a .rows .now) cs
     ∙ skip (clashRest (a .tag) (a .snapshot) (a .used) (a .rows .now) cs None) (c .next-marked .ensures)
     (λ k l m. clash-miss (a .tag) (a .snapshot) (a .used) (a .rows .now) cs None k l
-    (row-unmarked (cells .cells-of .ensures) (cellOf (rowAt 24 k (a .rows .now))) m))
+    (row-unmarked (cells .mark-cells .ensures) (cellOf (rowAt 24 k (a .rows .now))) m))
 
 has-written-requires : tie.Need-has-written-requires Inv-loop μ-loop
-has-written-requires c κs = (omega arith, c .before .before .before .before .before .before .cells-of .ensures)
+has-written-requires c κs = (omega arith, c .before .before .before .before .before .before .mark-cells .ensures)
 
 loop-again : tie.Need-loop-again Inv-loop μ-loop
 loop-again c =
@@ -44,7 +44,7 @@ loop-again c =
     let written = joined .before in
     let at = written .before .before .before .before in
     let cells = at .before .before .before in
-    let a = cells .before .before .before .before .before .args in
+    let a = cells .before .before .before .before .before .before .args in
     let cs = rowsIn 8 (a .entries) (a .commits .now) in
     let loop = at .loop in
     let best = joined .if2 .best in
@@ -59,11 +59,11 @@ loop-again c =
     (joined .if2 .came)
     ∙ skip (clashRest (a .tag) (a .snapshot) (a .used) (a .rows .now) cs best) (c .next-marked2 .ensures)
     (λ k l m. clash-miss (a .tag) (a .snapshot) (a .used) (a .rows .now) cs best k l
-    (row-unmarked (cells .cells-of .ensures) (cellOf (rowAt 24 k (a .rows .now))) m))
+    (row-unmarked (cells .mark-cells .ensures) (cellOf (rowAt 24 k (a .rows .now))) m))
 
 returns-2 : tie.Need-returns-2 Inv-loop μ-loop
 returns-2 c =
-    let a = c .before .before .before .before .before .before .before .before .before .args in
+    let a = c .before .before .before .before .before .before .before .before .before .before .args in
     let loop = c .before .loop in
     sym (loop .inv ∙ clash-end (a .tag) (a .snapshot) (a .used) (a .rows .now) (rowsIn 8 (a .entries) (a .commits .now)) (loop .best)
     (loop .i) (c .loop-test .left))

@@ -2,18 +2,15 @@
 use mathlib.Core.Path.{_∙_}
 use native.Mathlib.Omega.{arith}
 use borrow.Author.Needs.{needs}
-use Rattle.spec.specs.Rows.{rowsIn}
 use Rattle.spec.proofs.Rows.{rows-start}
-use Rattle.spec.specs.Share.{wrote}
-use Rattle.search.proofs.Marks.{from-mark}
+use Rattle.search.proofs.Marks.{by-mark}
 use Rattle.search.proofs.has_written.Statement.{statement}
 use Rattle.search.proofs.has_written.Tie as tie
 
 returns : tie.Need-returns
 returns c =
     let start = c .before .before .before in
-    let a = start .args in
-    rw (start .pre .1 .each (a .cell) (omega arith)) (from-mark (wrote (rowsIn 24 (a .used) (a .rows .now)) (a .tag) (a .cell)))
+    by-mark (start .pre .1) (start .args .cell) (omega arith)
 
 returns-2 : tie.Need-returns-2
 returns-2 c =

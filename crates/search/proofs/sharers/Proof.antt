@@ -24,16 +24,16 @@ returns c = rw (c .if1 .taken) (share-none _)
 loop-holds : tie.Need-loop-holds Inv-loop μ-loop
 loop-holds c =
     let cells = c .before .before in
-    let a = cells .before .before .before .args in (
+    let a = cells .before .before .before .before .args in (
       omega arith,
       carry (Shared (a .tag) (a .queued) (a .used) (a .rows .now) (a .numbers .now) 0) (c .next-marked .ensures)
           (λ k l m s. share-miss (a .tag) (a .queued) (a .used) (a .rows .now) (a .numbers .now) 0 k s l
-          (row-unmarked (cells .cells-of .ensures) (cellOf (rowAt 24 k (a .rows .now))) m))
+          (row-unmarked (cells .mark-cells .ensures) (cellOf (rowAt 24 k (a .rows .now))) m))
           (share-start (a .tag) (a .queued) (a .used) (a .rows .now) (a .numbers .now)),
     )
 
 has-written-requires : tie.Need-has-written-requires Inv-loop μ-loop
-has-written-requires c κs = (omega arith, c .before .before .before .before .before .before .cells-of .ensures)
+has-written-requires c κs = (omega arith, c .before .before .before .before .before .before .mark-cells .ensures)
 
 loop-again : tie.Need-loop-again Inv-loop μ-loop
 loop-again c =
@@ -41,7 +41,7 @@ loop-again c =
     let written = joined .before in
     let at = written .before .before .before .before in
     let cells = at .before .before .before in
-    let a = cells .before .before .before .args in
+    let a = cells .before .before .before .before .args in
     let loop = at .loop in
     let found = joined .if2 .found in
     let h : loop .i < a .used = omega arith in
@@ -61,13 +61,13 @@ loop-again c =
       next .0,
       carry (Shared (a .tag) (a .queued) (a .used) (a .rows .now) (a .numbers .now) found) (c .next-marked2 .ensures)
           (λ k l m s. share-miss (a .tag) (a .queued) (a .used) (a .rows .now) (a .numbers .now) found k s l
-          (row-unmarked (cells .cells-of .ensures) (cellOf (rowAt 24 k (a .rows .now))) m))
+          (row-unmarked (cells .mark-cells .ensures) (cellOf (rowAt 24 k (a .rows .now))) m))
           (next .1),
     )
 
 returns-2 : tie.Need-returns-2 Inv-loop μ-loop
 returns-2 c =
-    let start = c .before .before .before .before .before .before .before in
+    let start = c .before .before .before .before .before .before .before .before in
     let a = start .args in
     let loop = c .before .loop in
     share-end (a .tag) (a .queued) (a .used) (a .rows .now) (a .numbers .now) (loop .found) (loop .i) (loop .inv .1) (c .loop-test .left)
