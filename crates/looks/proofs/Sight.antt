@@ -14,11 +14,11 @@ use Rattle.spec.specs.Rows.{Row, tagOf, cellOf, commitNumber, rowAt, rowsIn, ro
 use Rattle.spec.proofs.Bytes.{number-two}
 use Rattle.spec.proofs.Rows.{field, rows-start, rows-step, rows-end}
 use Rattle.spec.specs.declared.Number.{Number}
-use Rattle.spec.specs.declared.Number.the-variants.{Some, None}
+use Rattle.spec.specs.declared.Number.the-variants.{None}
 use Rattle.spec.specs.declared.Found.{Found}
 use Rattle.spec.specs.declared.Found.the-variants.{At, Missing}
 use Rattle.spec.specs.declared.Lookup.{Lookup}
-use Rattle.spec.specs.declared.Lookup.the-variants.{Version, Nothing}
+use Rattle.spec.specs.declared.Lookup.the-variants.{Nothing}
 use Rattle.spec.specs.Numbers.{upTo}
 use Rattle.spec.specs.Look.{commitOf, isOwn, find, versionOf, newer, versionAt, newest, ownOr, lookFor}
 use Rattle.search.proofs.Folds.{to-start, own-yes, own-other-tag, own-other-cell, find-hit, find-miss, find-end}

@@ -15,7 +15,8 @@ use search::Own;
 use spec::Lookup;
 use spec::Number;
 
-// ---- passes from the end over the rows before row until: 1 more than the last one that is a hit, 0 where there is none
+// ---- passes from the end over the rows before row until: 1 more than the last one that is a hit, 0 where there is
+// none
 
 fn last_cell(rows: &[u8], until: usize, cell: u32) -> usize
     requires { ⌜ dataWidth * until ≤ length (now rows) ⌝ }
@@ -130,7 +131,8 @@ fn recent_commit(
     requires { ⌜ commitWidth * entries ≤ length (now commits) ⌝ }
     requires { ⌜ from ≤ entries ⌝ }
     requires { ⌜ NumberedBelow (now commits) from least ⌝ }
-    ensures { λ r. ⌜ r ≡ atLeast least (upTo snapshot (commitOf tag (commitRowsIn entries (now (commits .entry))))) ⌝ }
+    ensures { λ r. ⌜ r ≡ atLeast least (upTo snapshot
+        (commitOf tag (commitRowsIn entries (now (commits .entry))))) ⌝ }
 {
     let at = search::next_commit(commits, from, entries, tag);
     if entries <= at {
@@ -233,17 +235,7 @@ pub fn look_for(
         let found = numbers::up_to(snapshot, search::commit_of(commits, entries, writer));
         match found {
             Number::Some(number) => {
-                return look_before(
-                    rows,
-                    used,
-                    commits,
-                    entries,
-                    tag,
-                    cell,
-                    snapshot,
-                    k,
-                    number,
-                );
+                return look_before(rows, used, commits, entries, tag, cell, snapshot, k, number);
             }
             Number::None => {}
         }

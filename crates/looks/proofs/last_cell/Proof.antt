@@ -1,5 +1,5 @@
 -- `looks::last_cell`: no row behind row i is a hit, sixteen a turn and then one by one; no row has a cell above 65,535.
-use Prim.Native.Nat.{_+_, _*_, _≤_, _-_}
+use Prim.Native.Nat.{_≤_, _-_}
 use mathlib.Core.Path.{_≡_, refl, sym, _∙_}
 use native.Mathlib.Omega.{arith}
 use Rattle.spec.specs.Rows.{rowAt, cellOf}

@@ -1,6 +1,6 @@
 -- `looks::last_tag`: no row behind row i is a hit, sixteen a turn and then one by one.
-use Prim.Native.Nat.{_+_, _*_, _≤_, _-_}
-use mathlib.Core.Path.{_≡_, refl}
+use Prim.Native.Nat.{_≤_, _-_}
+use mathlib.Core.Path.{refl}
 use native.Mathlib.Omega.{arith}
 use Rattle.spec.specs.Rows.{rowAt, tagOf}
 use Rattle.search.proofs.Passes.{Past, past-none, past-miss, past-joined, last-none, last-found}

@@ -1,5 +1,5 @@
 -- `looks::look_before`: the best of the rows seen is numbered number or above, so that no row counts whose tag is not committed from there on.
-use Prim.Native.Nat.{ℕ, _+_, _-_, _≤_, _<_}
+use Prim.Native.Nat.{_+_, _-_, _≤_, _<_}
 use mathlib.Core.Path.{_≡_, sym, _∙_}
 use native.Mathlib.Omega.{arith}
 use borrow.Author.Needs.{needs}
@@ -53,14 +53,16 @@ loop-holds c =
 
 own-version-requires : tie.Need-own-version-requires Inv-loop μ-loop
 own-version-requires c κs =
-    let loop = c .before .before .before .loop in
-    (omega (arith, loop .inv .0, c .before .before .before .before .before .before .before .before .before .before .before .pre .0),
-    (sym (c .before .tag-at .ensures) ∙ c .if2 .taken, loop .inv .1 (omega arith)))
+    let loop = c .before .before .before .loop in (
+      omega (arith, loop .inv .0, c .before .before .before .before .before .before .before .before .before .before .before .pre .0),
+      (sym (c .before .tag-at .ensures) ∙ c .if2 .taken, loop .inv .1 (omega arith)),
+    )
 
 returns-2 : tie.Need-returns-2 Inv-loop μ-loop
 returns-2 c =
     let a = c .before .before .before .before .before .before .before .before .before .before .before .before .args in
-    c .own-version .ensures (a .snapshot) (a .used) (rowsIn 8 (a .entries) (a .commits .now)) (omega (arith, c .before .before .before .before .loop .inv .0))
+    c .own-version .ensures (a .snapshot) (a .used) (rowsIn 8 (a .entries) (a .commits .now))
+    (omega (arith, c .before .before .before .before .loop .inv .0))
 
 recent-commit-requires : tie.Need-recent-commit-requires Inv-loop μ-loop
 recent-commit-requires c κs =

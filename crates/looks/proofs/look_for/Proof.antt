@@ -43,14 +43,16 @@ loop-holds c =
 
 own-version-requires : tie.Need-own-version-requires Inv-loop μ-loop
 own-version-requires c κs =
-    let loop = c .before .before .before .loop in
-    (omega (arith, loop .inv .0, c .before .before .before .before .before .before .before .pre .0),
-    (sym (c .before .tag-at .ensures) ∙ c .if1 .taken, loop .inv .1 (omega arith)))
+    let loop = c .before .before .before .loop in (
+      omega (arith, loop .inv .0, c .before .before .before .before .before .before .before .pre .0),
+      (sym (c .before .tag-at .ensures) ∙ c .if1 .taken, loop .inv .1 (omega arith)),
+    )
 
 returns : tie.Need-returns Inv-loop μ-loop
 returns c =
     let a = c .before .before .before .before .before .before .before .before .args in
-    c .own-version .ensures (a .snapshot) (a .used) (rowsIn 8 (a .entries) (a .commits .now)) (omega (arith, c .before .before .before .before .loop .inv .0))
+    c .own-version .ensures (a .snapshot) (a .used) (rowsIn 8 (a .entries) (a .commits .now))
+    (omega (arith, c .before .before .before .before .loop .inv .0))
 
 look-before-requires : tie.Need-look-before-requires Inv-loop μ-loop
 look-before-requires c κs =
@@ -63,14 +65,19 @@ look-before-requires c κs =
     let k = loop .i - 1 in
     let h : k < a .used = omega (arith, loop .inv .0) in
     let number : upTo (a .snapshot) (commitOf (tagOf (rowAt 24 k (a .rows .now))) cs) ≡ Some (told .0 .0) = rw (← tag)
-    (ap (upTo (a .snapshot)) (sym (c .before .before .before .before .commit-of .ensures)) ∙ sym (c .before .before .before .up-to .ensures) ∙ told .1) in
-    (start .pre .0,
-    (start .pre .1,
-    (omega (arith, h),
-    seen-version (a .tag) (a .cell) (a .snapshot) (a .used) (a .rows .now) cs k h Nothing
-    (seen-at (a .tag) (a .cell) (a .snapshot) (a .used) (a .rows .now) cs (loop .i) (k + 1) Nothing (omega arith) (loop .inv .2))
-    (Version k (told .0 .0)) (loop .inv .1 (omega arith)) (λ e. c .before .before .before .before .before .if1 .left (tag ∙ e))
-    (first-version k (told .0 .0) _ number))))
+    (ap (upTo (a .snapshot)) (sym (c .before .before .before .before .commit-of .ensures)) ∙ sym (c .before .before .before .up-to .ensures) ∙ told .1) in (
+      start .pre .0,
+      (
+        start .pre .1,
+        (
+          omega (arith, h),
+          seen-version (a .tag) (a .cell) (a .snapshot) (a .used) (a .rows .now) cs k h Nothing
+              (seen-at (a .tag) (a .cell) (a .snapshot) (a .used) (a .rows .now) cs (loop .i) (k + 1) Nothing (omega arith) (loop .inv .2))
+              (Version k (told .0 .0)) (loop .inv .1 (omega arith)) (λ e. c .before .before .before .before .before .if1 .left (tag ∙ e))
+              (first-version k (told .0 .0) _ number),
+        ),
+      ),
+    )
 
 loop-again : tie.Need-loop-again Inv-loop μ-loop
 loop-again c =

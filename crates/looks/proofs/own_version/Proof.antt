@@ -1,13 +1,10 @@
 -- `looks::own_version`: the first own row before row k, else row k, is the first of all.
-use Prim.Native.Nat.{ℕ, _<_}
-use mathlib.Core.Path.{_≡_, sym, ap, _∙_}
 use borrow.Author.Needs.{needs}
 use Rattle.spec.specs.Rows.{rowsIn, hasTag}
-use Rattle.spec.specs.declared.Lookup.{Lookup}
-use Rattle.spec.specs.Look.{isOwn, find, versionOf, newest, ownOr, lookFor}
+use Rattle.spec.specs.Look.{isOwn, find, ownOr, lookFor}
 use Rattle.spec.specs.Share.{count}
 use Rattle.search.proofs.Below.{own-row, own-rows}
-use Rattle.looks.proofs.Sight.{foundOr, find-own}
+use Rattle.looks.proofs.Sight.{find-own}
 use Rattle.looks.proofs.own_version.Statement.{statement}
 use Rattle.looks.proofs.own_version.Tie as tie
 
