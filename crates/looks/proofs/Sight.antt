@@ -64,8 +64,8 @@ module _ (tag cell s n : ℕ) (d : List ℕ) (cs : List Row) where
       }
 
   -- the same row by another name
-  pub seen-at : (i j : ℕ) (best : Lookup) → i ≡ j → Seen tag cell s n d cs i best → Seen tag cell s n d cs j best
-  seen-at i j best e seen = rw (← e) seen
+  pub seen-same : (i j : ℕ) (best : Lookup) → i ≡ j → Seen tag cell s n d cs i best → Seen tag cell s n d cs j best
+  seen-same i j best e seen = rw (← e) seen
 
   -- all rows
   pub seen-all : (best : Lookup) → Seen tag cell s n d cs 0 best → best ≡ lookFor tag cell s (rowsIn 24 n d) cs

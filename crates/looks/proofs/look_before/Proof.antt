@@ -9,7 +9,7 @@ use Rattle.spec.specs.Numbers.{upTo}
 use Rattle.spec.specs.Look.{commitOf, newer, versionAt}
 use Rattle.looks.specs.Inner.{NumberedBelow, Seen}
 use Rattle.looks.proofs.Recent.{NumberedFrom, newer-bounded, newer-from}
-use Rattle.looks.proofs.Sight.{seen-at, seen-all, seen-version, seen-past-cells, seen-past-older}
+use Rattle.looks.proofs.Sight.{seen-same, seen-all, seen-version, seen-past-cells, seen-past-older}
 use Rattle.looks.proofs.look_before.Statement.{statement}
 use Rattle.looks.proofs.look_before.Tie as tie
 
@@ -28,7 +28,7 @@ returns c =
     let cs = rowsIn 8 (a .entries) (a .commits .now) in
     let best = Version (a .at) (a .number) in
     seen-all (a .tag) (a .cell) (a .snapshot) (a .used) (a .rows .now) cs best
-    (seen-at (a .tag) (a .cell) (a .snapshot) (a .used) (a .rows .now) cs (c .before .last-cell .result) 0 best (omega (arith, c .if1 .taken))
+    (seen-same (a .tag) (a .cell) (a .snapshot) (a .used) (a .rows .now) cs (c .before .last-cell .result) 0 best (omega (arith, c .if1 .taken))
     (seen-past-cells (a .tag) (a .cell) (a .snapshot) (a .used) (a .rows .now) cs (a .at) (c .before .last-cell .result) best (start .pre .1 .1 .0)
     (c .before .last-cell .ensures) (start .pre .1 .1 .1)))
 
@@ -94,7 +94,7 @@ loop-again c =
       seen-past-older (a .tag) (a .cell) (a .snapshot) (a .used) (a .rows .now) (a .number) (a .entries) (numbered .result) (least .result)
           (a .commits .now) below (least .ensures) k (c .older2 .result) next (omega (arith, h)) from pass
           (seen-version (a .tag) (a .cell) (a .snapshot) (a .used) (a .rows .now) cs k h (loop .best)
-          (seen-at (a .tag) (a .cell) (a .snapshot) (a .used) (a .rows .now) cs (loop .i) (k + 1) (loop .best) (omega arith) (loop .inv .3)) next
+          (seen-same (a .tag) (a .cell) (a .snapshot) (a .used) (a .rows .now) cs (loop .i) (k + 1) (loop .best) (omega arith) (loop .inv .3)) next
           (loop .inv .1 (omega arith)) (λ e. c .before .before .before .if2 .left (tag ∙ e)) is),
     )
 
@@ -104,7 +104,7 @@ returns-3 c =
     let cs = rowsIn 8 (a .entries) (a .commits .now) in
     let loop = c .before .loop in
     seen-all (a .tag) (a .cell) (a .snapshot) (a .used) (a .rows .now) cs (loop .best)
-    (seen-at (a .tag) (a .cell) (a .snapshot) (a .used) (a .rows .now) cs (loop .i) 0 (loop .best) (omega (arith, c .loop-test .left)) (loop .inv .3))
+    (seen-same (a .tag) (a .cell) (a .snapshot) (a .used) (a .rows .now) cs (loop .i) 0 (loop .best) (omega (arith, c .loop-test .left)) (loop .inv .3))
 
 pub look-before-spec : {M : Type 1} → statement M
 look-before-spec =

@@ -10,7 +10,7 @@ use Rattle.spec.specs.declared.Lookup.the-variants.{Version, Nothing}
 use Rattle.spec.specs.Numbers.{upTo}
 use Rattle.spec.specs.Look.{commitOf, newer, versionAt}
 use Rattle.looks.specs.Inner.{Seen}
-use Rattle.looks.proofs.Sight.{seen-none, seen-at, seen-all, seen-version, seen-past-cells}
+use Rattle.looks.proofs.Sight.{seen-none, seen-same, seen-all, seen-version, seen-past-cells}
 use Rattle.looks.proofs.look_for.Statement.{statement}
 use Rattle.looks.proofs.look_for.Tie as tie
 
@@ -72,7 +72,7 @@ look-before-requires c κs =
         (
           omega (arith, h),
           seen-version (a .tag) (a .cell) (a .snapshot) (a .used) (a .rows .now) cs k h Nothing
-              (seen-at (a .tag) (a .cell) (a .snapshot) (a .used) (a .rows .now) cs (loop .i) (k + 1) Nothing (omega arith) (loop .inv .2))
+              (seen-same (a .tag) (a .cell) (a .snapshot) (a .used) (a .rows .now) cs (loop .i) (k + 1) Nothing (omega arith) (loop .inv .2))
               (Version k (told .0 .0)) (loop .inv .1 (omega arith)) (λ e. c .before .before .before .before .before .if1 .left (tag ∙ e))
               (first-version k (told .0 .0) _ number),
         ),
@@ -96,7 +96,7 @@ loop-again c =
       pass .hit,
       seen-past-cells (a .tag) (a .cell) (a .snapshot) (a .used) (a .rows .now) cs k (c .last-cell2 .result) Nothing (omega (arith, h)) pass
           (seen-version (a .tag) (a .cell) (a .snapshot) (a .used) (a .rows .now) cs k h Nothing
-          (seen-at (a .tag) (a .cell) (a .snapshot) (a .used) (a .rows .now) cs (loop .i) (k + 1) Nothing (omega arith) (loop .inv .2)) Nothing
+          (seen-same (a .tag) (a .cell) (a .snapshot) (a .used) (a .rows .now) cs (loop .i) (k + 1) Nothing (omega arith) (loop .inv .2)) Nothing
           (loop .inv .1 (omega arith)) (λ e. c .before .before .before .before .before .if1 .left (tag ∙ e)) (no-version k _ number)),
     )
 
@@ -106,7 +106,7 @@ returns-3 c =
     let cs = rowsIn 8 (a .entries) (a .commits .now) in
     let loop = c .before .loop in
     seen-all (a .tag) (a .cell) (a .snapshot) (a .used) (a .rows .now) cs Nothing
-    (seen-at (a .tag) (a .cell) (a .snapshot) (a .used) (a .rows .now) cs (loop .i) 0 Nothing (omega (arith, c .loop-test .left)) (loop .inv .2))
+    (seen-same (a .tag) (a .cell) (a .snapshot) (a .used) (a .rows .now) cs (loop .i) 0 Nothing (omega (arith, c .loop-test .left)) (loop .inv .2))
 
 pub look-for-spec : {M : Type 1} → statement M
 look-for-spec =
