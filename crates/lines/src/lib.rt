@@ -69,13 +69,12 @@ fn set_up_said(
     }
     let d = front(DATA_ROW * count as usize, rows.len());
     let c = front(COMMIT_ROW * count as usize, commits.len());
-    let turn = starts::set_up(&mut rows[..d], &mut commits[..c], first, limit);
-    let answer = turn.answer;
+    let done = starts::made(&mut rows[..d], &mut commits[..c], first, limit);
+    let answer = done.answer;
     let used = reply::free_line(out, at, form, answer);
     match answer {
-        FigureAnswer::Answered(_) => Answered {
-            head: record::spread(
-                turn.store,
+        FigureAnswer::Answered(_) => {
+            record::zeroed(
                 stage,
                 number,
                 snapshot,
@@ -83,9 +82,10 @@ fn set_up_said(
                 commit,
                 requestWaits,
                 commitWaits,
-            ),
-            used,
-        },
+            );
+            let next = done.head;
+            Answered { head: next, used }
+        }
         FigureAnswer::Refused(_) => Answered { head: h, used },
     }
 }

@@ -1,5 +1,5 @@
 -- Numbers from m up to s (`atLeast m (upTo s ..)`), for a tag that is looked for from a committed row on. If each committed row with the tag has a
--- number outside of these bounds, up to row r, and there is none from r on, the tag has none at all (`none-within`): committed rows that are numbered
+-- number outside of these bounds, up to row r, and there is none from r on, the tag has none at all (`none-in-bounds`): committed rows that are numbered
 -- below m need no look.
 -- Assumes nothing.
 use Prim.Native.Nat.{ℕ, _+_, _≤_, _<_}
@@ -37,9 +37,9 @@ module _ (m s x : ℕ) where
   unfolding atLeast upTo
   too-large h = rw (lt-leb x s h)
 
-  pub within : m ≤ x → x ≤ s → atLeast m (upTo s (Some x)) ≡ Some x
+  pub in-bounds : m ≤ x → x ≤ s → atLeast m (upTo s (Some x)) ≡ Some x
   unfolding atLeast upTo
-  within h g = rw (le-leb x s g, le-ltb x m h)
+  in-bounds h g = rw (le-leb x s g, le-ltb x m h)
 
 -- ---- the committed rows with a tag
 
@@ -48,9 +48,9 @@ module _ (m s tag n : ℕ) (c : List ℕ) where
   abbrev pub Outside : ℕ → Type 0
   Outside k = commitTag (rowAt 8 k c) ≡ tag → atLeast m (upTo s (Some (commitNumber (rowAt 8 k c)))) ≡ None
 
-  pub none-within : (r : ℕ) → r ≤ n → ((k : ℕ) → k < r → Outside k) → atLeast m (upTo s (commitOf tag (rowsFrom 8 n r c))) ≡ None
+  pub none-in-bounds : (r : ℕ) → r ≤ n → ((k : ℕ) → k < r → Outside k) → atLeast m (upTo s (commitOf tag (rowsFrom 8 n r c))) ≡ None
       → atLeast m (upTo s (commitOf tag (rowsIn 8 n c))) ≡ None
-  none-within r h before rest =
+  none-in-bounds r h before rest =
       rw (rows-start 8 n c)
       (to-start (λ i. atLeast m (upTo s (commitOf tag (rowsFrom 8 n i c))) ≡ None) r rest
       (λ i l. step i l (ℕ-discrete (commitTag (rowAt 8 i c)) tag)))
@@ -63,12 +63,12 @@ module _ (m s tag n : ℕ) (c : List ℕ) where
   -- it has none where all its rows are outside
   pub all-outside : ((k : ℕ) → k < n → Outside k) → atLeast m (upTo s (commitOf tag (rowsIn 8 n c))) ≡ None
   unfolding atLeast upTo
-  all-outside h = none-within n (omega arith) h (rw (commit-end tag n c))
+  all-outside h = none-in-bounds n (omega arith) h (rw (commit-end tag n c))
 
   -- its first row is outside, or one before it is
   pub first-outside : (r : ℕ) → r < n → commitTag (rowAt 8 r c) ≡ tag → ((k : ℕ) → k < r → Outside k)
       → atLeast m (upTo s (Some (commitNumber (rowAt 8 r c)))) ≡ None → atLeast m (upTo s (commitOf tag (rowsIn 8 n c))) ≡ None
-  first-outside r h e before here = none-within r (omega arith) before (rw (commit-hit tag n c r h e) here)
+  first-outside r h e before here = none-in-bounds r (omega arith) before (rw (commit-hit tag n c r h e) here)
 
 -- ---- what is not newer
 

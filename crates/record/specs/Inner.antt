@@ -6,12 +6,14 @@ use mathlib.Core.Bool.{Bool}
 use mathlib.Core.List.{List}
 use denote.Ref.{RefT}
 use denote.Triple.Both.{Both}
-use Rattle.spec.specs.Set.{clients}
+use lib.Dec.{ltb}
+use Rattle.spec.specs.Choice.{if_then_else_}
 use Rattle.spec.specs.Numbers.{smallest}
 use Rattle.spec.specs.declared.Number.{Number}
+use Rattle.spec.specs.declared.Number.the-variants.{Some, None}
 use Rattle.spec.specs.declared.Store.{Store}
 use Rattle.spec.specs.Answers.{Answer}
-use Rattle.spec.specs.Image.{countersOf, Clients, clientsOf, Image}
+use Rattle.spec.specs.Image.{countersOf, Clients, clientsOf, zeros, Image}
 use Rattle.spec.specs.Calls.{Outcome, readers, low}
 use Rattle.spec.specs.Bytes.{recordOf, decode, Memory, memoryOf, afterOf, encode, fits, Performs}
 use Rattle.record.specs.declared.Head.{Head}
@@ -41,6 +43,10 @@ columns g n s q m r w = record {
   exit = columnsNow (g .exit) (n .exit) (s .exit) (q .exit) (m .exit) (r .exit) (w .exit);
 }
 
+-- the columns where nothing is open
+abbrev pub noClients : Clients
+noClients = clientsOf zeros zeros zeros zeros zeros zeros zeros
+
 -- the memory of numbers, columns and lent buffers, before and after
 abbrev pub memoryFound : Head → Both Clients Clients → Lent → Lent → Memory
 memoryFound h k d c = memoryOf (whole h (k .entry)) (d .entry .now) (c .entry .now)
@@ -66,10 +72,18 @@ Transforms f h k d c h′ a =
 abbrev pub Suits : Head → List ℕ → ℕ → ℕ → Bool → Type 0
 Suits h stage d c r = (n s q m b w : List ℕ) → r ≡ fits (whole h (clientsOf stage n s q m b w)) d c
 
--- the smallest snapshot of the open clients, by their arrays alone
-abbrev pub SmallestOpen : List ℕ → List ℕ → Number → Type 0
-SmallestOpen numbers snapshots r =
-    (x : Image) → x .clients .number ≡ numbers → x .clients .snapshot ≡ snapshots → r ≡ smallest (readers x clients)
+-- the number, or none where it has more than 32 bits
+unfoldable pub shortNumber : ℕ → Number
+shortNumber n = if ltb n 4294967296 then Some n else None
+
+-- the smallest snapshot of the open ones of the clients below k, by their arrays alone
+abbrev pub SmallestOpen : List ℕ → List ℕ → ℕ → ℕ → Type 0
+SmallestOpen numbers snapshots k r =
+    (x : Image) → x .clients .number ≡ numbers → x .clients .snapshot ≡ snapshots → shortNumber r ≡ smallest (readers x k)
+
+-- the clients from k on and below m count nothing for it
+abbrev pub AllClosed : List ℕ → ℕ → ℕ → Type 0
+AllClosed numbers k m = (x : Image) → x .clients .number ≡ numbers → smallest (readers x m) ≡ smallest (readers x k)
 
 -- Trim's low
 abbrev pub Lowest : Head → List ℕ → List ℕ → ℕ → Type 0

@@ -1,20 +1,17 @@
 // The record apart: its eight numbers by value, and its arrays by client lent, a column each. Fitness, a new record,
 // closing a client, Trim's low; and how a record by value comes apart and together.
 ghost use mathlib.Core.Path.{_≡_};
-ghost use mathlib.Core.Bool.{not};
-ghost use lib.Dec.{eqb};
-ghost use Prim.Native.Nat.{_<_};
+ghost use mathlib.Core.Bool.{false};
+ghost use Prim.Native.Nat.{_+_, _<_, _≤_};
 ghost use Rattle.spec.specs.Set.{clients};
-ghost use Rattle.spec.specs.Choice.{if_then_else_};
 ghost use Rattle.spec.specs.Image.{closed, clientsOf, empty};
 ghost use Rattle.spec.specs.Bytes.{clientsIn, storeOf, known};
-ghost use Rattle.record.specs.Inner.{whole, columns, Suits, SmallestOpen, Lowest};
+ghost use Rattle.record.specs.Inner.{whole, columns, noClients, Suits, AllClosed, SmallestOpen, Lowest};
 use spec::AdvanceAnswer;
 use spec::CLIENTS;
 use spec::COMMIT_ROW;
 use spec::DATA_ROW;
 use spec::FigureAnswer;
-use spec::Number;
 use spec::Refusal;
 use spec::Set;
 use spec::Store;
@@ -107,41 +104,13 @@ pub fn renumbered(store: Store, h: Head) -> Store
     next
 }
 
-// The columns become those of a record; its numbers are handed back.
-pub fn spread(
-    store: Store,
-    stage: &mut [u32; CLIENTS],
-    number: &mut [u32; CLIENTS],
-    snapshot: &mut [u32; CLIENTS],
-    request: &mut [u32; CLIENTS],
-    commit: &mut [u32; CLIENTS],
-    requestWaits: &mut [Set; CLIENTS],
-    commitWaits: &mut [Set; CLIENTS],
-) -> Head
-    ensures { λ r. ⌜ whole r (columns stage number snapshot request commit requestWaits commitWaits .exit) ≡ store ⌝ }
-{
-    let stages = store.stage;
-    *stage = stages;
-    let numbers = store.number;
-    *number = numbers;
-    let snapshots = store.snapshot;
-    *snapshot = snapshots;
-    let requests = store.request;
-    *request = requests;
-    let commits = store.commit;
-    *commit = commits;
-    let request_waits = store.requestWaits;
-    *requestWaits = request_waits;
-    let commit_waits = store.commitWaits;
-    *commitWaits = commit_waits;
-    head_of(store)
-}
+// ---- a new record
 
-// A record with nothing open and no row in use.
-pub fn fresh(rows: u32, limit: u32, issued: u32) -> Store
-    ensures { λ r. ⌜ r ≡ storeOf (empty rows limit issued) ⌝ }
+// Its numbers.
+pub fn starting(rows: u32, limit: u32, issued: u32) -> Head
+    ensures { λ r. ⌜ whole r noClients ≡ storeOf (empty rows limit issued) ⌝ }
 {
-    Store {
+    Head {
         rows,
         limit,
         issued,
@@ -150,14 +119,44 @@ pub fn fresh(rows: u32, limit: u32, issued: u32) -> Store
         last: 0,
         used: 0,
         entries: 0,
-        stage: [0; CLIENTS],
-        number: [0; CLIENTS],
-        snapshot: [0; CLIENTS],
-        request: [0; CLIENTS],
-        commit: [0; CLIENTS],
-        requestWaits: [0; CLIENTS],
-        commitWaits: [0; CLIENTS],
     }
+}
+
+// Its columns, whatever these have held.
+pub fn zeroed(
+    stage: &mut [u32; CLIENTS],
+    number: &mut [u32; CLIENTS],
+    snapshot: &mut [u32; CLIENTS],
+    request: &mut [u32; CLIENTS],
+    commit: &mut [u32; CLIENTS],
+    requestWaits: &mut [Set; CLIENTS],
+    commitWaits: &mut [Set; CLIENTS],
+)
+    ensures { λ _. ⌜ columns stage number snapshot request commit requestWaits commitWaits .exit ≡ noClients ⌝ }
+{
+    *stage = [0; CLIENTS];
+    *number = [0; CLIENTS];
+    *snapshot = [0; CLIENTS];
+    *request = [0; CLIENTS];
+    *commit = [0; CLIENTS];
+    *requestWaits = [0; CLIENTS];
+    *commitWaits = [0; CLIENTS];
+}
+
+// A record with nothing open and no row in use.
+pub fn fresh(rows: u32, limit: u32, issued: u32) -> Store
+    ensures { λ r. ⌜ r ≡ storeOf (empty rows limit issued) ⌝ }
+{
+    joined(
+        starting(rows, limit, issued),
+        [0; CLIENTS],
+        [0; CLIENTS],
+        [0; CLIENTS],
+        [0; CLIENTS],
+        [0; CLIENTS],
+        [0; CLIENTS],
+        [0; CLIENTS],
+    )
 }
 
 // ---- fitness
@@ -233,23 +232,52 @@ pub fn close(
 
 // ---- Trim
 
-// The snapshot of a client with this number, if it is open.
-fn reader(number: u32, snapshot: u32) -> Number
-    ensures { λ r. ⌜ r ≡ (if not (eqb number 0) then Number.Some snapshot else Number.None) ⌝ }
+// What stands for a smallest snapshot where there is none: it is above all numbers of 32 bits.
+const NONE: u64 = 4294967296;
+
+// Whether one of the four clients from this one on is open. All are looked at, so that they are tested at once.
+fn some_open(number: &[u32; CLIENTS], from: usize) -> bool
+    requires { ⌜ from + 4 ≤ clients ⌝ }
+    ensures { λ r. ⌜ (r ≡ false → AllClosed (now (number .entry)) from (from + 4)) ⌝ }
 {
-    if number == 0 {
-        return Number::None;
+    let mut open = false;
+    for j in 0..4 {
+        if number[from + j] != 0 {
+            open = true;
+        }
     }
-    Number::Some(snapshot)
+    open
 }
 
-// The smallest snapshot of open transactions, in every image with these columns.
-fn smallest_open(number: &[u32; CLIENTS], snapshot: &[u32; CLIENTS]) -> Number
-    ensures { λ r. ⌜ SmallestOpen (now (number .entry)) (now (snapshot .entry)) r ⌝ }
+// The smallest snapshot of these four and the clients before them, whose own it is given.
+fn four_more(number: &[u32; CLIENTS], snapshot: &[u32; CLIENTS], from: usize, best: u64) -> u64
+    requires { ⌜ from + 4 ≤ clients ⌝ }
+    ensures { λ r. ⌜ (SmallestOpen (now (number .entry)) (now (snapshot .entry)) from best
+        → SmallestOpen (now (number .entry)) (now (snapshot .entry)) (from + 4) r) ⌝ }
 {
-    let mut best = Number::None;
-    for i in 0..CLIENTS {
-        best = numbers::lesser_of(reader(number[i], snapshot[i]), best);
+    let mut next = best;
+    for j in 0..4 {
+        if number[from + j] != 0 {
+            let e = &snapshot[from + j];
+            let s = *e as u64;
+            if s < next {
+                next = s;
+            }
+        }
+    }
+    next
+}
+
+// The smallest snapshot of open transactions, in every image with these columns. Most clients are closed: four at a
+// time are passed.
+fn smallest_open(number: &[u32; CLIENTS], snapshot: &[u32; CLIENTS]) -> u64
+    ensures { λ r. ⌜ SmallestOpen (now (number .entry)) (now (snapshot .entry)) clients r ⌝ }
+{
+    let mut best = NONE;
+    for t in 0..CLIENTS / 4 {
+        if some_open(number, 4 * t) {
+            best = four_more(number, snapshot, 4 * t, best);
+        }
     }
     best
 }
@@ -259,10 +287,7 @@ pub fn lowest(h: Head, number: &[u32; CLIENTS], snapshot: &[u32; CLIENTS]) -> u3
     ensures { λ r. ⌜ Lowest h (now (number .entry)) (now (snapshot .entry)) r ⌝ }
 {
     let best = smallest_open(number, snapshot);
-    match best {
-        Number::Some(n) => n,
-        Number::None => h.last,
-    }
+    if best < NONE { best as u32 } else { h.last }
 }
 
 // ---- a refusal

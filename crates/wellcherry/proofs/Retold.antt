@@ -14,7 +14,6 @@ pub retold : {A : Type 0} (g : A → Told) (f : Image → Outcome A) (s : Store)
     → Performs f (memoryOf s d c) (memoryOf s′ d′ c′) a → t ≡ inNumbers g a → Tells g f (memoryOf s d c) (memoryOf s′ d′ c′) t
 retold g f s d c e h = rw h (ap (toldAfter g) e)
 
--- a set-up whose record s was laid out as t
-pub set-up-retold : (d c : List ℕ) (w l : ℕ) {s t : Store} {d′ c′ : List ℕ} {a : Answer ℕ} {n : Told}
-    → SetsUp d c w l (memoryOf s d′ c′) a → t ≡ s → n ≡ inNumbers figureTold a → TellsSetUp d c w l (memoryOf t d′ c′) n
-set-up-retold d c w l e i h = rw (i, h) (ap (toldAfter figureTold) e)
+pub set-up-retold : (d c : List ℕ) (w l : ℕ) {s : Store} {d′ c′ : List ℕ} {a : Answer ℕ} {t : Told}
+    → SetsUp d c w l (memoryOf s d′ c′) a → t ≡ inNumbers figureTold a → TellsSetUp d c w l (memoryOf s d′ c′) t
+set-up-retold d c w l e h = rw h (ap (toldAfter figureTold) e)

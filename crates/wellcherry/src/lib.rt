@@ -100,9 +100,7 @@ pub extern "C" fn wellcherry_call_set_up(
         (columns stage number snapshot request commit requestWaits commitWaits) rows commits
         (toldOf (r .refusal) (r .figure) 0) ⌝ }
 {
-    let turn = starts::set_up(rows, commits, first, limit);
-    let made = record::spread(
-        turn.store,
+    let done = starts::set_up_in(
         stage,
         number,
         snapshot,
@@ -110,9 +108,14 @@ pub extern "C" fn wellcherry_call_set_up(
         commit,
         requestWaits,
         commitWaits,
+        rows,
+        commits,
+        first,
+        limit,
     );
-    put_head(head, made);
-    let answer = turn.answer;
+    let next = done.head;
+    put_head(head, next);
+    let answer = done.answer;
     let told = telling::figure_told(answer);
     FigureGiven {
         refusal: told.refusal,

@@ -12,7 +12,7 @@ use Rattle.spec.specs.Numbers.{upTo}
 use Rattle.search.specs.Inner.{Next}
 use Rattle.search.proofs.Folds.{commit-first}
 use Rattle.looks.specs.Inner.{NumberedBelow, atLeast}
-use Rattle.looks.proofs.Recent.{too-small, too-large, within, Outside, all-outside, first-outside}
+use Rattle.looks.proofs.Recent.{too-small, too-large, in-bounds, Outside, all-outside, first-outside}
 use Rattle.looks.proofs.recent_commit.Statement.{statement}
 use Rattle.looks.proofs.recent_commit.Tie as tie
 
@@ -81,7 +81,7 @@ returns-5 c =
     ∙ sym (ap (λ x. atLeast (a .least) (upTo (a .snapshot) x))
     (commit-first (a .tag) (a .entries) (a .commits .now) at h (pass .hit h)
     (λ k b. go (a .tag) (a .entries) (a .from) at (c .before .next-commit2 .result) (a .commits .now) pass none (omega (arith, c .if4 .left)) k b))
-    ∙ within (a .least) (a .snapshot) (commitNumber (rowAt 8 at (a .commits .now)))
+    ∙ in-bounds (a .least) (a .snapshot) (commitNumber (rowAt 8 at (a .commits .now)))
     (omega (arith, c .before .before .before .if2 .left, number)) (omega (arith, c .before .before .if3 .left, number)))
   where
     go : (tag n from at r : ℕ) (c : List ℕ) → Next (λ k. commitTag (rowAt 8 k c) ≡ tag) from n at → Next (λ k. commitTag (rowAt 8 k c) ≡ tag) 0 from r

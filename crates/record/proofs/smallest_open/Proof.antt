@@ -1,63 +1,46 @@
--- `record::smallest_open`: the smallest of the clients passed.
+-- `record::smallest_open`: the smallest of the clients passed, four at a time.
 -- Assumes nothing.
-use mathlib.Core.Path.{_≡_, refl, _∙_}
-use Prim.Native.Nat.{_≤_, _-_}
+use mathlib.Core.Path.{_≡_, refl, sym, _∙_}
+use mathlib.Core.Logic.{⊎-elim}
+use Prim.Native.Nat.{_*_, _+_, _≤_, _-_}
 use native.Mathlib.Omega.{arith}
-use native.Mathlib.Numerals.{add-one}
 use borrow.Author.Needs.{needs}
-use Rattle.spec.specs.Set.{clients}
 use Rattle.spec.specs.Numbers.{smallest}
-use Rattle.spec.specs.Image.{Image}
 use Rattle.spec.specs.Calls.{readers}
+use Rattle.record.specs.Inner.{shortNumber, SmallestOpen}
 use Rattle.record.proofs.smallest_open.Statement.{statement}
 use Rattle.record.proofs.smallest_open.Tie as tie
 
 abbrev Inv-loop : tie.InvT-loop
-Inv-loop numbers snapshots best₀ i₀ best i =
-    (i ≤ clients)
-    × ((x : Image) → x .clients .number ≡ numbers → x .clients .snapshot ≡ snapshots → best ≡ smallest (readers x i))
+Inv-loop numbers snapshots best₀ t₀ best t = (t ≤ 16) × SmallestOpen numbers snapshots (4 * t) best
 
 abbrev μ-loop : tie.MeasureT-loop
-μ-loop numbers snapshots best₀ i₀ best i = clients - i
+μ-loop numbers snapshots best₀ t₀ best t = 16 - t
 
 loop-holds : tie.Need-loop-holds Inv-loop μ-loop
-unfolding readers smallest
-loop-holds c = (search needs, λ x e f. refl)
+unfolding readers smallest shortNumber
+loop-holds c = (search needs, λ x n s. refl)
 
-mul-reader : tie.Need-mul-reader Inv-loop μ-loop
-mul-reader c = search needs
+some-open-requires : tie.Need-some-open-requires Inv-loop μ-loop
+some-open-requires c κs = omega arith
 
-element-copy-out-reader : tie.Need-element-copy-out-reader Inv-loop μ-loop
-element-copy-out-reader c = search needs
-
-mul-reader-2 : tie.Need-mul-reader-2 Inv-loop μ-loop
-mul-reader-2 c = search needs
-
-element-copy-out-reader-2 : tie.Need-element-copy-out-reader-2 Inv-loop μ-loop
-element-copy-out-reader-2 c = search needs
-
-reader-requires : tie.Need-reader-requires Inv-loop μ-loop
-reader-requires c κs = search needs
-
-lesser-of-requires : tie.Need-lesser-of-requires Inv-loop μ-loop
-lesser-of-requires c κs = search needs
-
-add-i : tie.Need-add-i Inv-loop μ-loop
-add-i c = search needs
-
-loop-less : tie.Need-loop-less Inv-loop μ-loop
-loop-less c = search needs
+four-more-requires : tie.Need-four-more-requires Inv-loop μ-loop
+four-more-requires c κs = omega arith
 
 loop-again : tie.Need-loop-again Inv-loop μ-loop
-unfolding readers smallest
 loop-again c =
-    let loop = c .before .before .before .before .before .loop in (
+    let l = c .before .before .before .loop in
+    let z : 4 * (l .t + 1) ≡ 4 * l .t + 4 = omega arith in (
       search needs,
-      λ x e f. c .lesser-of .ensures ∙ rw (c .before .reader .ensures, loop .inv .1 x e f, add-one (loop .i), e, f),
+      λ x n s. rw z
+          (⊎-elim
+          (λ w. rw (w .2) (w .1 .ensures (l .inv .1) x n s))
+          (λ w. rw (w .1) (l .inv .1 x n s ∙ sym (c .before .some-open .ensures (w .0 .left) x n)))
+          (c .if1 .came)),
     )
 
 returns : tie.Need-returns Inv-loop μ-loop
-returns c = let e : c .before .loop .i ≡ clients = omega arith in rw e at (c .before .loop .inv .1)
+returns c = let e : c .before .loop .t ≡ 16 = omega arith in rw e at (c .before .loop .inv .1)
 
 pub smallest-open-spec : {M : Type 1} → statement M
 smallest-open-spec =
@@ -66,13 +49,11 @@ smallest-open-spec =
     Inv-loop
     μ-loop
     loop-holds
-    mul-reader
-    element-copy-out-reader
-    mul-reader-2
-    element-copy-out-reader-2
-    reader-requires
-    lesser-of-requires
-    add-i
-    loop-less
+    (λ c. search needs)
+    some-open-requires
+    (λ c. search needs)
+    four-more-requires
+    (λ c. search needs)
+    (λ c. search needs)
     loop-again
     returns)

@@ -1,0 +1,56 @@
+-- `record::four_more`: the smallest of the clients passed.
+-- Assumes nothing.
+use mathlib.Core.Path.{_≡_}
+use mathlib.Core.Logic.{⊎-elim}
+use Prim.Native.Nat.{_+_, _≤_, _-_}
+use native.Mathlib.Omega.{arith}
+use borrow.Author.Needs.{needs}
+use Rattle.record.specs.Inner.{SmallestOpen}
+use Rattle.record.proofs.Smallest.{open-lower, open-higher, closed-passed}
+use Rattle.record.proofs.four_more.Statement.{statement}
+use Rattle.record.proofs.four_more.Tie as tie
+
+abbrev Inv-loop : tie.InvT-loop
+Inv-loop number snapshot from best next₀ j₀ next j =
+    (j ≤ 4) × (SmallestOpen number snapshot from best → SmallestOpen number snapshot (from + j) next)
+
+abbrev μ-loop : tie.MeasureT-loop
+μ-loop number snapshot from best next₀ j₀ next j = 4 - j
+
+loop-holds : tie.Need-loop-holds Inv-loop μ-loop
+loop-holds c = let z : c .args .from + 0 ≡ c .args .from = omega arith in (search needs, λ f. rw z f)
+
+loop-again : tie.Need-loop-again Inv-loop μ-loop
+loop-again c =
+    let a = c .before .before .before .before .args in
+    let loop = c .before .before .before .loop in (
+      search needs,
+      λ f.
+          let l = a .number .now in
+          let p = a .snapshot .now in
+          let k = a .from + loop .j in
+          let g = loop .inv .1 f in
+          ⊎-elim
+          (λ w. open-lower l p k (loop .next) (omega arith) (w .0 .taken) (omega (arith, w .2 .given)) (w .3 .taken) (w .4) g)
+          (⊎-elim
+          (λ w. open-higher l p k (loop .next) (omega arith) (w .0 .taken) (omega (arith, w .2 .given)) (w .3 .left) (w .4) g)
+          (λ w. closed-passed l p k (loop .next) (omega arith) (w .0 .left) (w .1) g))
+          (c .if1 .came),
+    )
+
+returns : tie.Need-returns Inv-loop μ-loop
+returns c =
+    let same : c .before .loop .j ≡ 4 = omega arith in
+    rw same at (c .before .loop .inv .1)
+
+pub four-more-spec : {M : Type 1} → statement M
+four-more-spec =
+    tie.close
+    (tie.spec
+    Inv-loop
+    μ-loop
+    loop-holds
+    (λ c. search needs) (λ c. search needs) (λ c. search needs) (λ c. search needs) (λ c. search needs) (λ c. search needs)
+    (λ c. search needs) (λ c. search needs)
+    loop-again
+    returns)
