@@ -15,13 +15,12 @@ use Rattle.spec.proofs.Bytes.{number-two}
 use Rattle.spec.proofs.Rows.{field, rows-start, rows-step, rows-end}
 use Rattle.spec.specs.declared.Number.{Number}
 use Rattle.spec.specs.declared.Number.the-variants.{None}
-use Rattle.spec.specs.declared.Found.{Found}
 use Rattle.spec.specs.declared.Found.the-variants.{At, Missing}
 use Rattle.spec.specs.declared.Lookup.{Lookup}
-use Rattle.spec.specs.declared.Lookup.the-variants.{Nothing}
+use Rattle.spec.specs.declared.Lookup.the-variants.{Version, Nothing}
 use Rattle.spec.specs.Numbers.{upTo}
 use Rattle.spec.specs.Look.{commitOf, isOwn, find, versionOf, newer, versionAt, newest, ownOr, lookFor}
-use Rattle.search.proofs.Folds.{to-start, own-yes, own-other-tag, own-other-cell, find-hit, find-miss, find-end}
+use Rattle.search.proofs.Folds.{own-yes, own-other-tag, own-other-cell, find-hit, find-miss, find-end}
 use Rattle.search.specs.Inner.{Last}
 use Rattle.search.proofs.Passes.{down-to, carry-back}
 use Rattle.looks.specs.Inner.{Older, LeastTag, NumberedBelow, atLeast, Seen}
@@ -134,24 +133,26 @@ module _ (tag cell s n : ℕ) (d : List ℕ) where
 
 -- ---- the reader's own rows
 
--- the first own row of those before k, else k
-abbrev pub foundOr : ℕ → Found → Found
-foundOr k (At i) = At i
-foundOr k Missing = At k
+-- of the rows from i on, however many there are behind row k, the first own one is row `at`
+abbrev pub FirstOwn : ℕ → ℕ → ℕ → List ℕ → ℕ → ℕ → Type 0
+FirstOwn tag cell k d i at = (n : ℕ) → k < n → find (isOwn tag cell) i (rowsFrom 24 n i d) ≡ At at
 
-pub find-own : (tag cell k n : ℕ) (d : List ℕ) → k < n → tagOf (rowAt 24 k d) ≡ tag → cellOf (rowAt 24 k d) ≡ cell
-    → find (isOwn tag cell) 0 (rowsIn 24 n d) ≡ foundOr k (find (isOwn tag cell) 0 (rowsIn 24 k d))
-find-own tag cell k n d h e f =
-    rw (rows-start 24 n d, rows-start 24 k d)
-    (to-start (λ i. find p i (rowsFrom 24 n i d) ≡ foundOr k (find p i (rowsFrom 24 k i d))) k
-    (rw (find-end p 24 k k d (omega arith)) (find-hit p 24 n k d h (own-yes tag cell (rowAt 24 k d) e f)))
-    (λ i l. step i l (p (rowAt 24 i d)) refl))
-  where
-    p : Row → Bool
-    p = isOwn tag cell
+module _ (tag cell k : ℕ) (d : List ℕ) where
+  pub own-here : (i : ℕ) → i ≤ k → tagOf (rowAt 24 i d) ≡ tag → cellOf (rowAt 24 i d) ≡ cell → FirstOwn tag cell k d i i
+  own-here i h e f n l = find-hit (isOwn tag cell) 24 n i d (omega arith) (own-yes tag cell (rowAt 24 i d) e f)
 
-    step : (i : ℕ) → i < k → (t : Bool) → p (rowAt 24 i d) ≡ t
-        → find p (i + 1) (rowsFrom 24 n (i + 1) d) ≡ foundOr k (find p (i + 1) (rowsFrom 24 k (i + 1) d))
-        → find p i (rowsFrom 24 n i d) ≡ foundOr k (find p i (rowsFrom 24 k i d))
-    step i l true e rest = rw (find-hit p 24 n i d (omega arith) e, find-hit p 24 k i d l e)
-    step i l false e rest = rw (find-miss p 24 n i d (omega arith) e, find-miss p 24 k i d l e) rest
+  module _ (i at : ℕ) (h : i < k) (own : FirstOwn tag cell k d (i + 1) at) where
+    pub own-not-tag : (tagOf (rowAt 24 i d) ≡ tag → ⊥) → FirstOwn tag cell k d i at
+    own-not-tag ne n l = find-miss (isOwn tag cell) 24 n i d (omega arith) (own-other-tag tag cell (rowAt 24 i d) ne) ∙ own n l
+
+    pub own-not-cell : (cellOf (rowAt 24 i d) ≡ cell → ⊥) → FirstOwn tag cell k d i at
+    own-not-cell ne n l = find-miss (isOwn tag cell) 24 n i d (omega arith) (own-other-cell tag cell (rowAt 24 i d) ne) ∙ own n l
+
+  pub own-past : (until r at : ℕ) → until ≤ k → Last (λ j. tagOf (rowAt 24 j d) ≡ tag) until r → FirstOwn tag cell k d until at
+      → FirstOwn tag cell k d r at
+  own-past until r at h pass = carry-back (λ j. FirstOwn tag cell k d j at) pass (λ j l ne own. own-not-tag j at (omega arith) own ne)
+
+  -- a read finds it, whatever else there is
+  pub own-read : (at : ℕ) → FirstOwn tag cell k d 0 at → (s n : ℕ) (cs : List Row) → k < n → Version at 0 ≡ lookFor tag cell s (rowsIn 24 n d) cs
+  unfolding lookFor ownOr
+  own-read at own s n cs l = rw (rows-start 24 n d, own n l)

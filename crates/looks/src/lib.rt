@@ -11,7 +11,6 @@ ghost use Rattle.spec.specs.Numbers.{upTo};
 ghost use Rattle.spec.specs.Look.{commitOf, lookFor};
 ghost use Rattle.search.specs.Inner.{Next, Last};
 ghost use Rattle.looks.specs.Inner.{Older, LeastTag, NumberedBelow, atLeast, Seen};
-use search::Own;
 use spec::Lookup;
 use spec::Number;
 
@@ -162,11 +161,15 @@ fn own_version(rows: &[u8], k: usize, tag: u32, cell: u32) -> Lookup
     ensures { λ r. ⌜ ((s n : ℕ) (cs : List Row) → k < n
         → r ≡ lookFor tag cell s (dataRowsIn n (now (rows .entry))) cs) ⌝ }
 {
-    let own = search::own_row(rows, k, tag, cell);
-    match own {
-        Own::Row(at) => Lookup::Version { at, number: 0 },
-        Own::Rows(_) => Lookup::Version { at: k, number: 0 },
+    let mut at = k;
+    let mut i = search::last_tagged(rows, k, tag);
+    while 0 < i {
+        if rows::cell_at(rows, i - 1) == cell {
+            at = i - 1;
+        }
+        i = search::last_tagged(rows, i - 1, tag);
     }
+    Lookup::Version { at, number: 0 }
 }
 
 // The rows before row at, where that row under that number is what the rows from it on give.

@@ -1,18 +1,14 @@
--- A row that is found is one of those searched, and what one pass found or counted is what the definition looks for.
+-- A row that is found is one of those searched.
 -- Assumes nothing.
 use Prim.Native.Nat.{ℕ, suc, _+_, _<_}
-use mathlib.Core.Path.{_≡_, refl, ap}
+use mathlib.Core.Path.{_≡_}
 use mathlib.Core.Bool.{Bool, true, false}
 use mathlib.Core.List.{List, [], _∷_}
 use native.Mathlib.Omega.{arith}
 use lib.ListN.{length}
 use Rattle.spec.specs.Choice.{if_then_else_}
 use Rattle.spec.specs.Rows.{Row}
-use Rattle.spec.specs.declared.Found.{Found}
-use Rattle.spec.specs.declared.Found.the-variants.{At, Missing}
-use Rattle.search.specs.declared.Own.{Own}
-use Rattle.search.specs.declared.Own.the-variants.{Row as OwnRow, Rows as OwnRows}
-use Rattle.search.specs.Inner.{rowOrCount}
+use Rattle.spec.specs.declared.Found.the-variants.{At}
 use Rattle.spec.specs.Look.{find}
 
 pub find-below : (p : Row → Bool) (i j : ℕ) (rs : List Row) → find p i rs ≡ At j → j < i + length rs
@@ -23,15 +19,3 @@ find-below p i j (r ∷ rs) e = go (p r) (find-below p (i + 1) j rs) e
     go : (t : Bool) → (find p (i + 1) rs ≡ At j → j < i + 1 + length rs) → (if t then At i else find p (i + 1) rs) ≡ At j → j < i + suc (length rs)
     go true h e = let q : i ≡ j = cc in omega arith
     go false h e = omega (arith, h e)
-
-nothing : _≡_ {A = ℕ} 0 1 → ⊥
-nothing z = omega arith
-
--- what was found in one pass is what the definition looks for
-pub own-row : (f : Found) (n : ℕ) (o : Own) (j : ℕ) → o ≡ rowOrCount f n → o ≡ OwnRow j → f ≡ At j
-own-row (At i) n o j e g = let q : i ≡ j = cc in ap At q
-own-row Missing n o j e g = let z : _≡_ {A = ℕ} 0 1 = cc in absurd (nothing z)
-
-pub own-rows : (f : Found) (n : ℕ) (o : Own) (m : ℕ) → o ≡ rowOrCount f n → o ≡ OwnRows m → (f ≡ Missing) × (m ≡ n)
-own-rows (At i) n o m e g = let z : _≡_ {A = ℕ} 0 1 = cc in absurd (nothing z)
-own-rows Missing n o m e g = (refl, cc)

@@ -50,7 +50,7 @@ pub fn next_tag(rows: &[u8], from: usize, used: usize, tag: u32) -> usize
 
 // From the end: 1 more than the last row before row until with a tag, 0 where there is none. An open transaction's
 // rows are among the newest.
-fn last_tagged(rows: &[u8], until: usize, tag: u32) -> usize
+pub fn last_tagged(rows: &[u8], until: usize, tag: u32) -> usize
     requires { ⌜ dataWidth * until ≤ length (now rows) ⌝ }
     ensures { λ r. ⌜ Last (λ k. tagOf (rowAt dataWidth k (now (rows .entry))) ≡ tag) until r ⌝ }
 {

@@ -1,7 +1,7 @@
 -- What a Write leaves, by the facts that its code has found: one law for each way in which it ends.
 -- Assumes nothing.
 use Prim.Native.Nat.{ℕ, _<_}
-use mathlib.Core.Path.{_≡_}
+use mathlib.Core.Path.{_≡_, refl, ap}
 use mathlib.Core.Bool.{true}
 use mathlib.Core.List.{List}
 use native.Mathlib.Omega.{arith}
@@ -11,13 +11,28 @@ use Rattle.spec.specs.Set.{clients}
 use Rattle.spec.specs.Rows.{rowsIn}
 use Rattle.spec.proofs.Rows.{length-rows}
 use Rattle.spec.specs.declared.Found.{Found}
-use Rattle.spec.specs.declared.Found.the-variants.{At}
+use Rattle.spec.specs.declared.Found.the-variants.{At, Missing}
+use Rattle.search.specs.declared.Own.{Own}
+use Rattle.search.specs.declared.Own.the-variants.{Row as OwnRow, Rows as OwnRows}
 use Rattle.spec.specs.Look.{isOwn, find}
+use Rattle.search.specs.Inner.{rowOrCount}
 use Rattle.search.proofs.Below.{find-below}
 use Rattle.spec.specs.declared.Store.{Store}
 use Rattle.spec.specs.Calls.{stored, write}
 use Rattle.spec.specs.Bytes.{decode, After, encode, fits, onBytes}
 use Rattle.spec.proofs.Ends.{goes}
+
+nothing : _≡_ {A = ℕ} 0 1 → ⊥
+nothing z = omega arith
+
+-- what was found in one pass is what the definition looks for
+pub own-row : (f : Found) (n : ℕ) (o : Own) (j : ℕ) → o ≡ rowOrCount f n → o ≡ OwnRow j → f ≡ At j
+own-row (At i) n o j e g = let q : i ≡ j = cc in ap At q
+own-row Missing n o j e g = let z : _≡_ {A = ℕ} 0 1 = cc in absurd (nothing z)
+
+pub own-rows : (f : Found) (n : ℕ) (o : Own) (m : ℕ) → o ≡ rowOrCount f n → o ≡ OwnRows m → (f ≡ Missing) × (m ≡ n)
+own-rows (At i) n o m e g = let z : _≡_ {A = ℕ} 0 1 = cc in absurd (nothing z)
+own-rows Missing n o m e g = (refl, cc)
 
 -- a row that was found is in use
 pub found-below : (t x n : ℕ) (d : List ℕ) (j : ℕ) → find (isOwn t x) 0 (rowsIn 24 n d) ≡ At j → j < n

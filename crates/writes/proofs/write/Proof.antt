@@ -14,8 +14,7 @@ use Rattle.spec.specs.Bytes.{decode}
 use Rattle.spec.specs.declared.Found.{Found}
 use Rattle.spec.proofs.Ends.{fit-of, ends-unfit, refuses}
 use Rattle.record.specs.Inner.{whole}
-use Rattle.search.proofs.Below.{own-row, own-rows}
-use Rattle.writes.proofs.Outcomes.{write-stores, found-below}
+use Rattle.writes.proofs.Outcomes.{own-row, own-rows, write-stores, found-below}
 use borrow.Author.Needs.{needs}
 use Rattle.spec.specs.Share.{cellsOf}
 use Rattle.search.proofs.Folds.{cells-fewer}
