@@ -3,8 +3,7 @@
 -- seen the best is what a read finds. Where row k is the reader's own, the first own row decides, whatever stands behind.
 -- Assumes nothing.
 use Prim.Native.Nat.{ℕ, _+_, _*_, _≤_, _<_}
-use mathlib.Core.Path.{_≡_, refl, sym, ap, _∙_}
-use mathlib.Core.Bool.{Bool, true, false}
+use mathlib.Core.Path.{_≡_, sym, ap, _∙_}
 use mathlib.Core.List.{List}
 use native.Mathlib.Decide.{ℕ-discrete, decLt, decLe}
 use native.Mathlib.Omega.{arith}
@@ -15,7 +14,7 @@ use Rattle.spec.proofs.Bytes.{number-two}
 use Rattle.spec.proofs.Rows.{field, rows-start, rows-step, rows-end}
 use Rattle.spec.specs.declared.Number.{Number}
 use Rattle.spec.specs.declared.Number.the-variants.{None}
-use Rattle.spec.specs.declared.Found.the-variants.{At, Missing}
+use Rattle.spec.specs.declared.Found.the-variants.{At}
 use Rattle.spec.specs.declared.Lookup.{Lookup}
 use Rattle.spec.specs.declared.Lookup.the-variants.{Version, Nothing}
 use Rattle.spec.specs.Numbers.{upTo}
