@@ -29,16 +29,16 @@ pub fn next_tag(rows: &[u8], from: usize, used: usize, tag: u32) -> usize
     requires { ⌜ from ≤ used ⌝ }
     ensures { λ r. ⌜ Next (λ k. tagOf (rowAt dataWidth k (now (rows .entry))) ≡ tag) from used r ⌝ }
 {
-    let turns = (used - from) / 16;
+    let turns = (used - from) / 8;
     for t in 0..turns {
-        for j in 0..16 {
-            let i = from + 16 * t + j;
+        for j in 0..8 {
+            let i = from + 8 * t + j;
             if rows::tag_at(rows, i) == tag {
                 return i;
             }
         }
     }
-    let mut i = from + 16 * turns;
+    let mut i = from + 8 * turns;
     while i < used {
         if rows::tag_at(rows, i) == tag {
             return i;

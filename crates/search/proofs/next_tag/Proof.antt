@@ -8,10 +8,10 @@ use Rattle.search.proofs.next_tag.Statement.{statement}
 use Rattle.search.proofs.next_tag.Tie as tie
 
 abbrev Inv-loop : tie.InvT-loop
-Inv-loop rows from used tag turns t₀ t = (t ≤ turns) × Past (λ k. tagOf (rowAt 24 k rows) ≡ tag) from (from + 16 * t)
+Inv-loop rows from used tag turns t₀ t = (t ≤ turns) × Past (λ k. tagOf (rowAt 24 k rows) ≡ tag) from (from + 8 * t)
 
 abbrev Inv-loop2 : tie.InvT-loop2
-Inv-loop2 rows from used tag turns t j₀ j = (j ≤ 16) × Past (λ k. tagOf (rowAt 24 k rows) ≡ tag) from (from + 16 * t + j)
+Inv-loop2 rows from used tag turns t j₀ j = (j ≤ 8) × Past (λ k. tagOf (rowAt 24 k rows) ≡ tag) from (from + 8 * t + j)
 
 abbrev Inv-loop3 : tie.InvT-loop3
 Inv-loop3 rows from used tag turns i₀ i = (i ≤ used) × Past (λ k. tagOf (rowAt 24 k rows) ≡ tag) from i
@@ -20,7 +20,7 @@ pub next-tag-spec : {M : Type 1} → statement M
 next-tag-spec =
     tie.close
     (tie.spec
-    Inv-loop2 (λ rows from used tag turns t j₀ j. 16 - j)
+    Inv-loop2 (λ rows from used tag turns t j₀ j. 8 - j)
     Inv-loop (λ rows from used tag turns t₀ t. turns - t)
     Inv-loop3 (λ rows from used tag turns i₀ i. used - i)
     (λ c. omega arith)
