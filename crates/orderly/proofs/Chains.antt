@@ -9,7 +9,7 @@ use lib.Seq.{getD-set-same, getD-set-other}
 use native.Mathlib.Decide.{ℕ-discrete}
 use native.Mathlib.Omega.{arith}
 use Rattle.search.specs.Inner.{Next}
-use Rattle.search.proofs.Passes.{carry, skip}
+use Rattle.search.proofs.Passes.{carry}
 use Rattle.orderly.specs.Inner.{Linked, Chain}
 use Rattle.orderly.proofs.Nexts.{next-none, next-here, next-past}
 
@@ -68,7 +68,7 @@ module _ (key : ℕ → ℕ) (n : ℕ) where
 
     module _ (x i : ℕ) (h : i < n) (m : Chain key n nexts x i) where
       -- the next row of the chain
-      chain-next : Next (λ j. key j ≡ x) (i + 1) n (getD nexts i 0)
+      pub chain-next : Next (λ j. key j ≡ x) (i + 1) n (getD nexts i 0)
       chain-next = m .next i (omega arith) h (m .here h)
 
       pub chain-more : Chain key n nexts x (getD nexts i 0)
@@ -82,13 +82,6 @@ module _ (key : ℕ → ℕ) (n : ℕ) where
 
       pub chain-rises : (i < getD nexts i 0) × (getD nexts i 0 ≤ n)
       chain-rises = (omega (arith, chain-next .start), chain-next .end)
-
-      pub chain-skip : {A : Type 0} (F : ℕ → A) → ((k : ℕ) → k < n → (key k ≡ x → ⊥) → F k ≡ F (k + 1)) → F (i + 1) ≡ F (getD nexts i 0)
-      chain-skip F same = skip F chain-next same
-
-  pub head-skip : {A : Type 0} {p : ℕ} (F : ℕ → A) (heads nexts : List ℕ) (x i : ℕ) → x < p → Linked p key n i heads nexts →
-      ((k : ℕ) → k < n → (key k ≡ x → ⊥) → F k ≡ F (k + 1)) → F i ≡ F (getD heads x 0)
-  head-skip F heads nexts x i h l same = skip F (l .head x h) same
 
 module _ (key : ℕ → ℕ) (n : ℕ) (P : ℕ → Type 0) (nexts : List ℕ) (x : ℕ) (more : (k : ℕ) → k < n → (key k ≡ x → ⊥) → P k → P (k + 1)) where
   pub chain-carry : (i : ℕ) → i < n → Chain key n nexts x i → P (i + 1) → P (getD nexts i 0)

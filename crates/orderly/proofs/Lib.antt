@@ -5,5 +5,7 @@ pub mod Walks
 pub mod Entries
 pub mod TagsRise
 pub mod InOrder
+pub mod Single
 pub mod Open
 pub mod Flagged
+pub mod Short

@@ -3,21 +3,17 @@
 -- Assumes nothing.
 use Prim.Native.Nat.{ℕ, _+_, _≤_, _<_}
 use mathlib.Core.Path.{_≡_, sym, _∙_}
-use mathlib.Core.Bool.{Bool, true, false}
 use mathlib.Core.List.{List}
 use lib.ListN.{length, getD, replicate}
 use native.Mathlib.Decide.{decLt, ℕ-discrete}
 use native.Mathlib.Omega.{arith}
 use borrow.Author.Tests.{eq-eqb, ne-eqb}
-use Rattle.spec.specs.Rows.{rowAt, rowsIn, rowsFrom, tagOf, cellOf}
-use Rattle.spec.specs.Share.{wrote}
+use Rattle.spec.specs.Rows.{rowAt, tagOf, cellOf}
 use Rattle.search.specs.Inner.{Next}
 use Rattle.places.specs.Inner.{place}
-use Rattle.orderly.specs.Inner.{pairPlace, openPlace, Linked, Alike, PairWalk, Sole}
-use Rattle.spec.specs.Orderly.{orderlyRows}
-use Rattle.orderly.proofs.Chains.{linked-none, linked-less, chain-start, head-skip}
-use Rattle.orderly.proofs.Walks.{own-miss}
-use Rattle.orderly.proofs.Order.{displain, plain-large, plain-twice}
+use Rattle.orderly.specs.Inner.{pairPlace, openPlace, Linked, Alike, Sole}
+use Rattle.orderly.proofs.Chains.{linked-none, linked-less, chain-start}
+use Rattle.orderly.proofs.Single.{RowWalk}
 
 -- from row i on the rows that are not committed are plain, and linked
 pub record Tested (n : ℕ) (s flags heads nexts : List ℕ) (i : ℕ) : Type 0 where
@@ -74,9 +70,6 @@ module _ (n : ℕ) (s flags : List ℕ) where
     pub tested-more : (heads′ nexts′ : List ℕ) → Linked 1024 (openPlace flags s) n k heads′ nexts′ → Sole n s k → Tested n s flags heads′ nexts′ k
     tested-more heads′ nexts′ l p = record { end = omega (arith, t .end); linked = l; plain = plain-too (λ e. p) }
 
-    pub tested-large : 1024 ≤ cellOf (rowAt 24 k s) → orderlyRows (rowsIn 24 n s) ≡ false
-    tested-large b = displain n s k (omega (arith, t .end)) (plain-large n s k (omega (arith, t .end)) b)
-
     module _ (tag cell x : ℕ) (row : OpenRow n s flags k tag cell x) where
       pub open-at : openPlace flags s k ≡ x
       open-at = open-place k (row .uncommitted) ∙ rw (← row .tag-is, ← row .cell-is) (sym (row .place-is))
@@ -85,26 +78,18 @@ module _ (n : ℕ) (s flags : List ℕ) where
       meets j l ne a b =
           ne (open-place j (row .alike .each j k l (omega (arith, t .end)) (a ∙ row .tag-is) ∙ row .uncommitted) ∙ rw (a, b) (sym (row .place-is)))
 
-      pub open-walk : PairWalk n s nexts tag cell (getD heads x 0)
+      pub open-walk : RowWalk n s nexts k tag cell (getD heads x 0)
       open-walk =
           record {
-            key = openPlace flags s;
-            at = x;
-            chain = chain-start (openPlace flags s) n nexts heads x (k + 1) (row .small) (t .linked);
-            meets = meets;
+            here = omega (arith, t .end);
+            tag-is = row .tag-is;
+            cell-is = row .cell-is;
+            walk =
+                record {
+                  key = openPlace flags s;
+                  at = x;
+                  chain = chain-start (openPlace flags s) n nexts heads x (k + 1) (row .small) (t .linked);
+                  meets = meets;
+                };
+            next = t .linked .head x (row .small);
           }
-
-      -- what the walk says
-      module _ (b : Bool) (again : b ≡ wrote (rowsFrom 24 n (getD heads x 0) s) tag cell) where
-        twice : wrote (rowsFrom 24 n (k + 1) s) (tagOf (rowAt 24 k s)) (cellOf (rowAt 24 k s)) ≡ b
-        twice =
-            rw (← row .tag-is, ← row .cell-is)
-            (head-skip (openPlace flags s) n (λ i. wrote (rowsFrom 24 n i s) tag cell) heads nexts x (k + 1) (row .small) (t .linked)
-            (λ j l ne. own-miss tag cell n j s l (meets j l ne))
-            ∙ sym again)
-
-        pub tested-twice : b ≡ true → orderlyRows (rowsIn 24 n s) ≡ false
-        tested-twice q = displain n s k (omega (arith, t .end)) (plain-twice n s k (omega (arith, t .end)) (twice ∙ q))
-
-        pub open-alone : cell < 1024 → b ≡ false → Sole n s k
-        open-alone c q = record { small = rw (← row .cell-is) c; alone = twice ∙ q }

@@ -10,8 +10,11 @@ use Rattle.spec.specs.Choice.{if_then_else_}
 use Rattle.spec.specs.Rows.{rowAt, rowsFrom, tagOf, cellOf, commitTag}
 use Rattle.spec.specs.Look.{isOwn}
 use Rattle.spec.specs.Share.{any, wrote}
+use Rattle.search.specs.Inner.{Next}
 use Rattle.search.proofs.Folds.{any-step}
+use Rattle.search.proofs.Passes.{skip}
 use Rattle.spec.specs.Orderly.{isCommitOf}
+use Rattle.orderly.specs.Inner.{PairWalk}
 
 module _ (tag n k : ℕ) (c : List ℕ) (h : k < n) where
   pub tag-miss : (commitTag (rowAt 8 k c) ≡ tag → ⊥) → any (isCommitOf tag) (rowsFrom 8 n k c) ≡ any (isCommitOf tag) (rowsFrom 8 n (k + 1) c)
@@ -35,3 +38,9 @@ module _ (tag cell n k : ℕ) (s : List ℕ) (h : k < n) where
   pub own-here : tagOf (rowAt 24 k s) ≡ tag → cellOf (rowAt 24 k s) ≡ cell → wrote (rowsFrom 24 n k s) tag cell ≡ true
   unfolding wrote isOwn
   own-here e f = any-step (isOwn tag cell) 24 n k s h ∙ rw (eq-eqb _ _ e, eq-eqb _ _ f)
+
+-- from one row of the walk to the next
+pub pair-skip : {tag cell n i from r : ℕ} {s nexts : List ℕ} (w : PairWalk n s nexts tag cell i) → Next (λ k. w .key k ≡ w .at) from n r
+    → wrote (rowsFrom 24 n from s) tag cell ≡ wrote (rowsFrom 24 n r s) tag cell
+pair-skip {tag} {cell} {n} {s = s} w p =
+    skip (λ k. wrote (rowsFrom 24 n k s) tag cell) p (λ k l ne. own-miss tag cell n k s l (w .meets k l ne))

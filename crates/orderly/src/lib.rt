@@ -424,6 +424,49 @@ fn chain_flags(used: usize, follows: &[u16; 1024], first: usize, flags: &mut [u8
     }
 }
 
+// Whether the chain that starts at first has at most eight rows. Nothing is promised: both tests are right for all.
+fn is_short(used: usize, follows: &[u16; 1024], first: usize) -> bool
+    requires { ⌜ used ≤ 1024 ⌝ }
+    requires { ⌜ length (now follows) ≡ 1024 ⌝ }
+{
+    let mut left = 8usize;
+    let mut i = first;
+    while i < used {
+        if left == 0 {
+            return false;
+        }
+        left -= 1;
+        let next = &follows[i];
+        i = *next as usize;
+    }
+    true
+}
+
+// The test for a short chain, with no table: each row's cell, and whether a later row has its tag and cell.
+fn open_plain_short(rows: &[u8], used: usize, follows: &[u16; 1024], first: usize) -> bool
+    requires { ⌜ dataWidth * used ≤ length (now rows) ⌝ }
+    requires { ⌜ used ≤ 1024 ⌝ }
+    requires { ⌜ length (now follows) ≡ 1024 ⌝ }
+    requires { ⌜ SomeTagWalk used (now rows) (now follows) first ⌝ }
+    ensures { λ r. ⌜ ((key : ℕ → ℕ) (x : ℕ) → TagWalk key x used (now (rows .entry)) (now (follows .entry)) first
+        → OpenTest key x used (now (rows .entry)) r) ⌝ }
+{
+    let mut i = first;
+    while i < used {
+        let cell = rows::cell_at(rows, i);
+        if 1024 <= cell {
+            return false;
+        }
+        let tag = rows::tag_at(rows, i);
+        let next = follows[i] as usize;
+        if own_chained(rows, used, follows, next, tag, cell) {
+            return false;
+        }
+        i = next;
+    }
+    true
+}
+
 // The test, where the rows that are not committed are a chain that starts at first, which is used where there is
 // none: nothing is looked at then.
 pub fn open_plain_from(rows: &[u8], used: usize, follows: &[u16; 1024], first: usize) -> bool
@@ -435,6 +478,9 @@ pub fn open_plain_from(rows: &[u8], used: usize, follows: &[u16; 1024], first: u
         → OpenTest key x used (now (rows .entry)) r) ⌝ }
 {
     if first < used {
+        if is_short(used, follows, first) {
+            return open_plain_short(rows, used, follows, first);
+        }
         let mut flags = [0u8; 1024];
         chain_flags(used, follows, first, &mut flags);
         return open_plain(rows, used, &flags, first);

@@ -1,14 +1,13 @@
 -- From row i on the rows that are not committed are plain, and linked by tag and cell; the chain of a row's place meets every later row of its tag
 -- and cell.
 use Prim.Native.Nat.{ℕ, _+_, _-_}
-use mathlib.Core.Path.{_≡_, refl, ap, _∙_}
+use mathlib.Core.Path.{_≡_, ap, _∙_}
 use borrow.Author.Needs.{needs}
 use native.Mathlib.Omega.{arith}
 use lib.ListN.{getD}
-use Rattle.orderly.specs.Inner.{pairPlace, openPlace, PairWalk}
-use Rattle.orderly.proofs.Order.{differ}
-use Rattle.orderly.proofs.Open.{Tested, OpenRow, tested-none, tested-all, tested-past, tested-more, tested-large, tested-twice}
-use Rattle.orderly.proofs.Open.{open-at, open-walk, open-alone}
+use Rattle.orderly.specs.Inner.{pairPlace, openPlace}
+use Rattle.orderly.proofs.Single.{RowWalk, row-twice, row-sole, open-passes, open-fails, open-large}
+use Rattle.orderly.proofs.Open.{Tested, OpenRow, tested-none, tested-all, tested-past, tested-more, open-at, open-walk}
 use Rattle.orderly.proofs.open_plain.Statement.{statement}
 use Rattle.orderly.proofs.open_plain.Tie as tie
 
@@ -33,14 +32,8 @@ tested c =
 
 returns : tie.Need-returns Inv-loop μ-loop
 returns c =
-    let a = c .before .before .before .before .before .before .before .args in
-    let loop = c .before .before .before .before .before .loop in
-    record {
-      plain = λ e. absurd (differ e refl);
-      not-plain = λ e.
-          tested-large (a .used) (a .rows .now) (a .flags .now) (loop .heads) (loop .nexts) (loop .i - 1)
-          (tested (c .before .before .before .before)) (omega (arith, c .before .cell-at .ensures, c .if2 .taken));
-    }
+    open-large (c .before .before .before .before .before .loop .i - 1) (omega (arith, tested (c .before .before .before .before) .end))
+    (c .before .cell-at .ensures) (c .if2 .taken)
 
 -- row k, which is not committed
 row : (c : tie.After-pair-place Inv-loop μ-loop)
@@ -62,9 +55,10 @@ row c =
 
 -- the chain of its place
 walk : (c : tie.After-pair-place Inv-loop μ-loop)
-    → PairWalk (c .before .before .before .before .before .before .before .before .before .before .args .used)
+    → RowWalk (c .before .before .before .before .before .before .before .before .before .before .args .used)
     (c .before .before .before .before .before .before .before .before .before .before .args .rows .now)
     (c .before .before .before .before .before .before .before .before .loop .nexts)
+    (c .before .before .before .before .before .before .before .before .loop .i - 1)
     (c .before .before .tag-at .result) (c .before .before .before .before .cell-at .result)
     (getD (c .before .before .before .before .before .before .before .before .loop .heads) (c .pair-place .result) 0)
 walk c =
@@ -75,27 +69,16 @@ walk c =
     (c .before .before .tag-at .result) (c .before .before .before .before .cell-at .result) (c .pair-place .result) (row c)
 
 cast-own-chained : tie.Need-cast-own-chained Inv-loop μ-loop
-cast-own-chained c = omega (arith, walk (c .before) .chain .end)
+cast-own-chained c = omega (arith, walk (c .before) .walk .chain .end)
 
 own-chained-requires : tie.Need-own-chained-requires Inv-loop μ-loop
 own-chained-requires c κs =
     let start = c .before .before .before .before .before .before .before .before .before .before .before in
     let loop = c .before .before .before .before .before .before .before .before .before .loop in
-    (start .pre .0, (start .pre .1 .0, (loop .inv .linked .room, walk (c .before))))
+    (start .pre .0, (start .pre .1 .0, (loop .inv .linked .room, walk (c .before) .walk)))
 
 returns-2 : tie.Need-returns-2 Inv-loop μ-loop
-returns-2 c =
-    let a = c .before .before .before .before .before .before .before .before .before .before .before .before .before .args in
-    let loop = c .before .before .before .before .before .before .before .before .before .before .before .loop in
-    let pair = c .before .before .before in
-    let t = tested (c .before .before .before .before .before .before .before .before .before .before) in
-    record {
-      plain = λ e. absurd (differ e refl);
-      not-plain = λ e.
-          tested-twice (a .used) (a .rows .now) (a .flags .now) (loop .heads) (loop .nexts) (loop .i - 1) t
-          (pair .before .before .tag-at .result) (pair .before .before .before .before .cell-at .result) (pair .pair-place .result) (row pair)
-          (c .before .own-chained .result) (c .before .own-chained .ensures) (c .if3 .taken);
-    }
+returns-2 c = open-fails (row-twice (walk (c .before .before .before)) (c .before .own-chained .ensures) (c .if3 .taken))
 
 link-requires : tie.Need-link-requires Inv-loop μ-loop
 link-requires c κs =
@@ -110,7 +93,6 @@ loop-again c =
     let a = inside .before .before .before .args in
     let loop = inside .before .loop in
     let pair = c .before .before .before .before .before .before .before in
-    let own = c .before .before .before .before .before .own-chained in
     let tag = pair .before .before .tag-at .result in
     let cell = pair .before .before .before .before .cell-at .result in
     let x = pair .pair-place .result in
@@ -119,8 +101,8 @@ loop-again c =
     (c .before .link .last .1 .0)
     (c .before .link .ensures .one 1024 (openPlace (a .flags .now) (a .rows .now)) (a .used) (omega (arith, t .end))
     (open-at (a .used) (a .rows .now) (a .flags .now) (loop .heads) (loop .nexts) (loop .i - 1) t tag cell x (row pair)) (t .linked))
-    (open-alone (a .used) (a .rows .now) (a .flags .now) (loop .heads) (loop .nexts) (loop .i - 1) t tag cell x (row pair)
-    (own .result) (own .ensures) (pair .before .before .before .if2 .left) (c .before .before .before .before .if3 .left))
+    (row-sole (walk pair) (c .before .before .before .before .before .own-chained .ensures) (pair .before .before .before .if2 .left)
+    (c .before .before .before .before .if3 .left))
 
 loop-again-2 : tie.Need-loop-again-2 Inv-loop μ-loop
 loop-again-2 c =
@@ -134,13 +116,9 @@ returns-3 c =
     let start = c .before .before .before in
     let a = start .args in
     let loop = c .before .loop in
-    record {
-      plain = λ e.
-          tested-all (a .used) (a .rows .now) (a .flags .now) (loop .heads) (loop .nexts) (loop .i) (a .first)
-          (c .loop-test .left) (loop .inv)
-          (start .pre .1 .1 .1);
-      not-plain = λ e. absurd (differ refl e);
-    }
+    open-passes
+    (tested-all (a .used) (a .rows .now) (a .flags .now) (loop .heads) (loop .nexts) (loop .i) (a .first) (c .loop-test .left) (loop .inv)
+    (start .pre .1 .1 .1))
 
 pub open-plain-spec : {M : Type 1} → statement M
 open-plain-spec =

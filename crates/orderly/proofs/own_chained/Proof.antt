@@ -9,8 +9,8 @@ use Rattle.spec.specs.Rows.{rowAt, rowsFrom, tagOf, cellOf}
 use Rattle.spec.specs.Share.{wrote}
 use Rattle.search.proofs.Folds.{wrote-end}
 use Rattle.orderly.specs.Inner.{PairWalk}
-use Rattle.orderly.proofs.Chains.{chain-more, chain-rises, chain-skip}
-use Rattle.orderly.proofs.Walks.{own-miss, own-here}
+use Rattle.orderly.proofs.Chains.{chain-next, chain-more, chain-rises}
+use Rattle.orderly.proofs.Walks.{own-miss, own-here, pair-skip}
 use Rattle.orderly.proofs.own_chained.Statement.{statement}
 use Rattle.orderly.proofs.own_chained.Tie as tie
 
@@ -70,9 +70,7 @@ loop-again c =
       },
       loop .inv .1
           ∙ own-miss (a .tag) (a .cell) (a .used) (loop .i) (a .rows .now) h (other (c .before))
-          ∙ chain-skip (walk .key) (a .used) (a .nexts .now) (walk .at) (loop .i) h (walk .chain)
-          (λ k. wrote (rowsFrom 24 (a .used) k (a .rows .now)) (a .tag) (a .cell))
-          (λ k l ne. own-miss (a .tag) (a .cell) (a .used) k (a .rows .now) l (walk .meets k l ne)),
+          ∙ pair-skip walk (chain-next (walk .key) (a .used) (a .nexts .now) (walk .at) (loop .i) h (walk .chain)),
     )
 
 returns-2 : tie.Need-returns-2 Inv-loop μ-loop
