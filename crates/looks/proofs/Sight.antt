@@ -137,8 +137,8 @@ abbrev pub FirstOwn : ℕ → ℕ → ℕ → List ℕ → ℕ → ℕ → Type 
 FirstOwn tag cell k d i at = (n : ℕ) → k < n → find (isOwn tag cell) i (rowsFrom 24 n i d) ≡ At at
 
 module _ (tag cell k : ℕ) (d : List ℕ) where
-  pub own-here : (i : ℕ) → i ≤ k → tagOf (rowAt 24 i d) ≡ tag → cellOf (rowAt 24 i d) ≡ cell → FirstOwn tag cell k d i i
-  own-here i h e f n l = find-hit (isOwn tag cell) 24 n i d (omega arith) (own-yes tag cell (rowAt 24 i d) e f)
+  pub own-first : (i : ℕ) → i ≤ k → tagOf (rowAt 24 i d) ≡ tag → cellOf (rowAt 24 i d) ≡ cell → FirstOwn tag cell k d i i
+  own-first i h e f n l = find-hit (isOwn tag cell) 24 n i d (omega arith) (own-yes tag cell (rowAt 24 i d) e f)
 
   module _ (i at : ℕ) (h : i < k) (own : FirstOwn tag cell k d (i + 1) at) where
     pub own-not-tag : (tagOf (rowAt 24 i d) ≡ tag → ⊥) → FirstOwn tag cell k d i at

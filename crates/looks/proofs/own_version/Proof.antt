@@ -5,7 +5,7 @@ use mathlib.Core.Logic.{⊎-elim}
 use native.Mathlib.Omega.{arith}
 use borrow.Author.Needs.{needs}
 use Rattle.spec.specs.Rows.{rowAt, tagOf}
-use Rattle.looks.proofs.Sight.{FirstOwn, own-here, own-not-cell, own-past, own-read}
+use Rattle.looks.proofs.Sight.{FirstOwn, own-first, own-not-cell, own-past, own-read}
 use Rattle.looks.proofs.own_version.Statement.{statement}
 use Rattle.looks.proofs.own_version.Tie as tie
 
@@ -23,7 +23,7 @@ loop-holds c =
       pass .end,
       pass .hit,
       own-past (a .tag) (a .cell) (a .k) (a .rows .now) (a .k) (c .last-tagged .result) (a .k) (omega arith) pass
-          (own-here (a .tag) (a .cell) (a .k) (a .rows .now) (a .k) (omega arith) (start .pre .1 .0) (start .pre .1 .1)),
+          (own-first (a .tag) (a .cell) (a .k) (a .rows .now) (a .k) (omega arith) (start .pre .1 .0) (start .pre .1 .1)),
     )
 
 loop-again : tie.Need-loop-again Inv-loop μ-loop
@@ -40,7 +40,7 @@ loop-again c =
     let own : FirstOwn (a .tag) (a .cell) (a .k) (a .rows .now) (j + 1) (loop .at) = rw (← e) (loop .inv .2) in
     let here : FirstOwn (a .tag) (a .cell) (a .k) (a .rows .now) j (joined .if1 .at) =
     ⊎-elim
-    (λ w. rw (w .1) (own-here (a .tag) (a .cell) (a .k) (a .rows .now) j (omega (arith, h)) (loop .inv .1 (omega arith)) (sym cell ∙ w .0 .taken)))
+    (λ w. rw (w .1) (own-first (a .tag) (a .cell) (a .k) (a .rows .now) j (omega (arith, h)) (loop .inv .1 (omega arith)) (sym cell ∙ w .0 .taken)))
     (λ w. rw (w .1) (own-not-cell (a .tag) (a .cell) (a .k) (a .rows .now) j (loop .at) h own (λ f. w .0 .left (cell ∙ f))))
     (joined .if1 .came) in (
       omega (arith, pass .end, h),
