@@ -1,22 +1,22 @@
 -- The smallest snapshot of open clients, one client further.
 -- Assumes nothing.
 use Prim.Native.Nat.{ℕ, suc, _<_, _≤_}
-use mathlib.Core.Path.{_≡_, refl}
+use mathlib.Core.Path.{_≡_, refl, _∙_}
 use mathlib.Core.Bool.{Bool, true, false}
 use mathlib.Core.List.{List}
 use native.Mathlib.Omega.{arith}
 use lib.ListN.{getD}
 use lib.Dec.{ltb}
-use borrow.Author.Tests.{lt-ltb, le-ltb, eq-eqb, ne-eqb, ltb-false}
+use borrow.Author.Tests.{lt-ltb, le-ltb, eq-eqb, ltb-false}
 use Rattle.spec.specs.Choice.{if_then_else_}
 use Rattle.spec.specs.Numbers.{lesser, smallest}
 use Rattle.spec.specs.declared.Number.the-variants.{Some, None}
 use Rattle.spec.specs.Calls.{readers}
-use Rattle.record.specs.Inner.{shortNumber, SmallestOpen, AllClosed}
+use Rattle.record.specs.Inner.{shortNumber, Lowers, SmallestOpen, AllClosed}
 
 -- ---- a snapshot s beside the smallest so far, b
 
-lesser-new : (s b : ℕ) → s < 4294967296 → s < b → shortNumber s ≡ lesser (Some s) (shortNumber b)
+pub lesser-new : (s b : ℕ) → s < 4294967296 → s < b → shortNumber s ≡ lesser (Some s) (shortNumber b)
 unfolding lesser shortNumber
 lesser-new s b h g = rw (lt-ltb s 4294967296 h) (go (ltb b 4294967296))
   where
@@ -24,7 +24,7 @@ lesser-new s b h g = rw (lt-ltb s 4294967296 h) (go (ltb b 4294967296))
     go true = rw (le-ltb b s (omega (arith, g)))
     go false = refl
 
-lesser-old : (s b : ℕ) → s < 4294967296 → b ≤ s → shortNumber b ≡ lesser (Some s) (shortNumber b)
+pub lesser-old : (s b : ℕ) → s < 4294967296 → b ≤ s → shortNumber b ≡ lesser (Some s) (shortNumber b)
 unfolding lesser shortNumber
 lesser-old s b h g = rw (lt-ltb b 4294967296 (omega (arith, h, g))) (go (ltb b s) refl)
   where
@@ -32,24 +32,13 @@ lesser-old s b h g = rw (lt-ltb b 4294967296 (omega (arith, h, g))) (go (ltb b s
     go true e = refl
     go false e = let same : b ≡ s = omega (arith, g, ltb-false b s e) in rw same
 
--- ---- client k beside those below it, in the lists l of numbers and p of snapshots
+-- ---- one client further
 
-module _ (l p : List ℕ) (k b : ℕ) where
-  pub open-lower : {m r : ℕ} → m ≡ suc k → (getD l k 0 ≡ 0 → ⊥) → getD p k 0 < 4294967296 → getD p k 0 < b → r ≡ getD p k 0
-      → SmallestOpen l p k b → SmallestOpen l p m r
-  unfolding readers smallest
-  open-lower e o w h i f x n s =
-      rw (e, i, ← f x n s, n, s, ne-eqb (getD l k 0) 0 o) (lesser-new (getD p k 0) b w h)
-
-  pub open-higher : {m r : ℕ} → m ≡ suc k → (getD l k 0 ≡ 0 → ⊥) → getD p k 0 < 4294967296 → b ≤ getD p k 0 → r ≡ b
-      → SmallestOpen l p k b → SmallestOpen l p m r
-  unfolding readers smallest
-  open-higher e o w h i f x n s =
-      rw (e, i, ← f x n s, n, s, ne-eqb (getD l k 0) 0 o) (lesser-old (getD p k 0) b w h)
-
-  pub closed-passed : {m r : ℕ} → m ≡ suc k → getD l k 0 ≡ 0 → r ≡ b → SmallestOpen l p k b → SmallestOpen l p m r
-  unfolding readers smallest lesser
-  closed-passed e o i f x n s = rw (e, i, ← f x n s, n, eq-eqb (getD l k 0) 0 o)
+-- client k beside those below it, in the lists l of numbers and p of snapshots
+pub one-lower : (l p : List ℕ) (k b r : ℕ) {m : ℕ} → m ≡ suc k → Lowers b (getD l k 0) (getD p k 0) r
+    → SmallestOpen l p k b → SmallestOpen l p m r
+unfolding readers smallest
+one-lower l p k b r e i f x n s = i ∙ rw (e, f x n s, n, s)
 
 -- one more closed client
 pub closed-more : (l : List ℕ) (k m : ℕ) {q : ℕ} → q ≡ suc m → getD l m 0 ≡ 0 → AllClosed l k m → AllClosed l k q

@@ -2,13 +2,13 @@
 -- Assumes nothing.
 use Prim.Native.Nat.{ℕ}
 use mathlib.Core.Path.{_≡_}
-use mathlib.Core.Bool.{Bool}
+use mathlib.Core.Bool.{Bool, not}
 use mathlib.Core.List.{List}
 use denote.Ref.{RefT}
 use denote.Triple.Both.{Both}
-use lib.Dec.{ltb}
+use lib.Dec.{ltb, eqb}
 use Rattle.spec.specs.Choice.{if_then_else_}
-use Rattle.spec.specs.Numbers.{smallest}
+use Rattle.spec.specs.Numbers.{lesser, smallest}
 use Rattle.spec.specs.declared.Number.{Number}
 use Rattle.spec.specs.declared.Number.the-variants.{Some, None}
 use Rattle.spec.specs.declared.Store.{Store}
@@ -75,6 +75,10 @@ Suits h stage d c r = (n s q m b w : List ℕ) → r ≡ fits (whole h (clientsO
 -- the number, or none where it has more than 32 bits
 unfoldable pub shortNumber : ℕ → Number
 shortNumber n = if ltb n 4294967296 then Some n else None
+
+-- r is the smaller of b and the snapshot s of a client with number n, if it is open
+abbrev pub Lowers : ℕ → ℕ → ℕ → ℕ → Type 0
+Lowers b n s r = shortNumber r ≡ lesser (if not (eqb n 0) then Some s else None) (shortNumber b)
 
 -- the smallest snapshot of the open ones of the clients below k, by their arrays alone
 abbrev pub SmallestOpen : List ℕ → List ℕ → ℕ → ℕ → Type 0

@@ -6,7 +6,7 @@ ghost use Prim.Native.Nat.{_+_, _<_, _≤_};
 ghost use Rattle.spec.specs.Set.{clients};
 ghost use Rattle.spec.specs.Image.{closed, clientsOf, empty};
 ghost use Rattle.spec.specs.Bytes.{clientsIn, storeOf, known};
-ghost use Rattle.record.specs.Inner.{whole, columns, noClients, Suits, AllClosed, SmallestOpen, Lowest};
+ghost use Rattle.record.specs.Inner.{whole, columns, noClients, Suits, AllClosed, Lowers, SmallestOpen, Lowest};
 use spec::AdvanceAnswer;
 use spec::CLIENTS;
 use spec::COMMIT_ROW;
@@ -249,6 +249,17 @@ fn some_open(number: &[u32; CLIENTS], from: usize) -> bool
     open
 }
 
+// The smaller of a snapshot and that of a client with this number, if it is open.
+fn lower(best: u64, number: u32, snapshot: u32) -> u64
+    ensures { λ r. ⌜ Lowers best number snapshot r ⌝ }
+{
+    if number == 0 {
+        return best;
+    }
+    let s = snapshot as u64;
+    if s < best { s } else { best }
+}
+
 // The smallest snapshot of these four and the clients before them, whose own it is given.
 fn four_more(number: &[u32; CLIENTS], snapshot: &[u32; CLIENTS], from: usize, best: u64) -> u64
     requires { ⌜ from + 4 ≤ clients ⌝ }
@@ -257,13 +268,7 @@ fn four_more(number: &[u32; CLIENTS], snapshot: &[u32; CLIENTS], from: usize, be
 {
     let mut next = best;
     for j in 0..4 {
-        if number[from + j] != 0 {
-            let e = &snapshot[from + j];
-            let s = *e as u64;
-            if s < next {
-                next = s;
-            }
-        }
+        next = lower(next, number[from + j], snapshot[from + j]);
     }
     next
 }

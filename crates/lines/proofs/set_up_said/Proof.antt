@@ -34,7 +34,8 @@ returns-2 c =
     let t = m .before .before .before .before .before .before .before .before .before .before .made in
     let d = m .before .before .before .before .before .before .before .before .before .before .before .before .before .before .front in
     let e = m .before .before .before .before .before .before .before .before .before .before .before .before .before .front2 in
-    let a = m .before .before .before .before .before .before .before .before .before .before .before .before .before .before .before .before .before .before .before .args in
+    let a = m .before .before .before .before .before .before .before .before .before .before .before .before .before .before .before
+    .before .before .before .before .args in
     let l = m .before .before .before .before .free-line in
     set-up-spoken (whole (a .h) (columnsNow (a .stage) (a .number) (a .snapshot) (a .request) (a .commit) (a .requestWaits) (a .commitWaits)))
     (a .rows .now) (a .commits .now) _ _ _ _ (SetUp (a .count) (a .first) (a .limit)) (a .count) (a .first)

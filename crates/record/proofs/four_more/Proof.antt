@@ -1,12 +1,11 @@
 -- `record::four_more`: the smallest of the clients passed.
 -- Assumes nothing.
 use mathlib.Core.Path.{_≡_}
-use mathlib.Core.Logic.{⊎-elim}
 use Prim.Native.Nat.{_+_, _≤_, _-_}
 use native.Mathlib.Omega.{arith}
 use borrow.Author.Needs.{needs}
 use Rattle.record.specs.Inner.{SmallestOpen}
-use Rattle.record.proofs.Smallest.{open-lower, open-higher, closed-passed}
+use Rattle.record.proofs.Smallest.{one-lower}
 use Rattle.record.proofs.four_more.Statement.{statement}
 use Rattle.record.proofs.four_more.Tie as tie
 
@@ -22,20 +21,11 @@ loop-holds c = let z : c .args .from + 0 ≡ c .args .from = omega arith in (sea
 
 loop-again : tie.Need-loop-again Inv-loop μ-loop
 loop-again c =
-    let a = c .before .before .before .before .args in
-    let loop = c .before .before .before .loop in (
+    let loop = c .before .before .before .before .loop in
+    let a = c .before .before .before .before .before .args in (
       search needs,
-      λ f.
-          let l = a .number .now in
-          let p = a .snapshot .now in
-          let k = a .from + loop .j in
-          let g = loop .inv .1 f in
-          ⊎-elim
-          (λ w. open-lower l p k (loop .next) (omega arith) (w .0 .taken) (omega (arith, w .2 .given)) (w .3 .taken) (w .4) g)
-          (⊎-elim
-          (λ w. open-higher l p k (loop .next) (omega arith) (w .0 .taken) (omega (arith, w .2 .given)) (w .3 .left) (w .4) g)
-          (λ w. closed-passed l p k (loop .next) (omega arith) (w .0 .left) (w .1) g))
-          (c .if1 .came),
+      λ f. one-lower (a .number .now) (a .snapshot .now) (a .from + loop .j) (loop .next) (c .lower .result) (omega arith)
+          (c .lower .ensures) (loop .inv .1 f),
     )
 
 returns : tie.Need-returns Inv-loop μ-loop
@@ -51,6 +41,6 @@ four-more-spec =
     μ-loop
     loop-holds
     (λ c. search needs) (λ c. search needs) (λ c. search needs) (λ c. search needs) (λ c. search needs) (λ c. search needs)
-    (λ c. search needs) (λ c. search needs)
+    (λ c κs. search needs) (λ c. search needs) (λ c. search needs)
     loop-again
     returns)
