@@ -14,7 +14,7 @@ use Rattle.spec.specs.declared.Number.the-variants.{Some, None}
 use Rattle.spec.specs.declared.Store.{Store}
 use Rattle.spec.specs.Answers.{Answer}
 use Rattle.spec.specs.Image.{countersOf, Clients, clientsOf, zeros, Image}
-use Rattle.spec.specs.Calls.{Outcome, readers, low}
+use Rattle.spec.specs.Calls.{Outcome, readers}
 use Rattle.spec.specs.Bytes.{recordOf, decode, Memory, memoryOf, afterOf, encode, fits, Performs}
 use Rattle.record.specs.declared.Head.{Head}
 
@@ -88,8 +88,3 @@ SmallestOpen numbers snapshots k r =
 -- the clients from k on and below m count nothing for it
 abbrev pub AllClosed : List ℕ → ℕ → ℕ → Type 0
 AllClosed numbers k m = (x : Image) → x .clients .number ≡ numbers → smallest (readers x m) ≡ smallest (readers x k)
-
--- Trim's low
-abbrev pub Lowest : Head → List ℕ → List ℕ → ℕ → Type 0
-Lowest h number snapshot r =
-    (g q m b w d c : List ℕ) → r ≡ low (decode (whole h (clientsOf g number snapshot q m b w)) d c)

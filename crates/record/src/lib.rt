@@ -6,7 +6,7 @@ ghost use Prim.Native.Nat.{_+_, _<_, _≤_};
 ghost use Rattle.spec.specs.Set.{clients};
 ghost use Rattle.spec.specs.Image.{closed, clientsOf, empty};
 ghost use Rattle.spec.specs.Bytes.{clientsIn, storeOf, known};
-ghost use Rattle.record.specs.Inner.{whole, columns, noClients, Suits, AllClosed, Lowers, SmallestOpen, Lowest};
+ghost use Rattle.record.specs.Inner.{whole, columns, noClients, Suits, AllClosed, Lowers, SmallestOpen};
 use spec::AdvanceAnswer;
 use spec::CLIENTS;
 use spec::COMMIT_ROW;
@@ -233,7 +233,7 @@ pub fn close(
 // ---- Trim
 
 // What stands for a smallest snapshot where there is none: it is above all numbers of 32 bits.
-const NONE: u64 = 4294967296;
+pub const NO_SNAPSHOT: u64 = 4294967296;
 
 // Whether one of the four clients from this one on is open. All are looked at, so that they are tested at once.
 fn some_open(number: &[u32; CLIENTS], from: usize) -> bool
@@ -275,24 +275,16 @@ fn four_more(number: &[u32; CLIENTS], snapshot: &[u32; CLIENTS], from: usize, be
 
 // The smallest snapshot of open transactions, in every image with these columns. Most clients are closed: four at a
 // time are passed.
-fn smallest_open(number: &[u32; CLIENTS], snapshot: &[u32; CLIENTS]) -> u64
+pub fn smallest_open(number: &[u32; CLIENTS], snapshot: &[u32; CLIENTS]) -> u64
     ensures { λ r. ⌜ SmallestOpen (now (number .entry)) (now (snapshot .entry)) clients r ⌝ }
 {
-    let mut best = NONE;
+    let mut best = NO_SNAPSHOT;
     for t in 0..CLIENTS / 4 {
         if some_open(number, 4 * t) {
             best = four_more(number, snapshot, 4 * t, best);
         }
     }
     best
-}
-
-// The same of a record, or the last commit number if none is open.
-pub fn lowest(h: Head, number: &[u32; CLIENTS], snapshot: &[u32; CLIENTS]) -> u32
-    ensures { λ r. ⌜ Lowest h (now (number .entry)) (now (snapshot .entry)) r ⌝ }
-{
-    let best = smallest_open(number, snapshot);
-    if best < NONE { best as u32 } else { h.last }
 }
 
 // ---- a refusal

@@ -330,8 +330,8 @@ pub fn sharers(rows: &[u8], used: usize, tag: u32, numbers: &[u32; CLIENTS], que
 
 // ---- the check
 
-// Whether a committed row in use has a number above s. Goes to the end in any case, so that the compiler takes several
-// rows at a time.
+// Whether a committed row in use has a number above s. Goes to the end in any case, so that the compiler takes
+// several rows at a time.
 fn any_above(commits: &[u8], entries: usize, s: u32) -> bool
     requires { ⌜ commitWidth * entries ≤ length (now commits) ⌝ }
     ensures { λ r. ⌜ r ≡ any (λ c. ltb s (commitNumber c)) (commitRowsIn entries (now (commits .entry))) ⌝ }

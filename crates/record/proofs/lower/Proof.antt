@@ -1,7 +1,6 @@
 -- `record::lower`: the smaller of two snapshots, or the one there is.
 -- Assumes nothing.
 use native.Mathlib.Omega.{arith}
-use borrow.Author.Needs.{needs}
 use borrow.Author.Tests.{eq-eqb, ne-eqb}
 use Rattle.spec.specs.Numbers.{lesser}
 use Rattle.record.proofs.Smallest.{lesser-new, lesser-old}
