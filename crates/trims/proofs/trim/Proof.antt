@@ -39,7 +39,8 @@ returns-2 c =
     goes _ _ _ _ (sym (tested .before .fit .ensures _ _ _ _ _ _) ∙ not-false _ (tested .if1 .left))
     (c .before .before .before .before .trim-by .ensures (a .stage .now) (a .number .now) (a .snapshot .now) q m b w
     (low-open (decode (whole (a .h) (clientsOf (a .stage .now) (a .number .now) (a .snapshot .now) q m b w)) (a .rows .now) (a .commits .now))
-    (looked .smallest-open .result) (looked .smallest-open .ensures _ refl refl) (c .before .before .before .before .before .before .before .if2 .taken)))
+    (looked .smallest-open .result) (looked .smallest-open .ensures _ refl refl)
+    (omega (arith, c .before .before .before .before .before .before .before .if2 .taken))))
 
 returns-3 : tie.Need-returns-3
 unfolding decode
@@ -51,7 +52,8 @@ returns-3 c =
     goes _ _ _ _ (sym (tested .before .fit .ensures _ _ _ _ _ _) ∙ not-false _ (tested .if1 .left))
     (c .before .before .before .before .trim-by2 .ensures (a .stage .now) (a .number .now) (a .snapshot .now) q m b w
     (low-none (decode (whole (a .h) (clientsOf (a .stage .now) (a .number .now) (a .snapshot .now) q m b w)) (a .rows .now) (a .commits .now))
-    (looked .smallest-open .result) (looked .smallest-open .ensures _ refl refl) (c .before .before .before .before .before .before .before .if2 .left)))
+    (looked .smallest-open .result) (looked .smallest-open .ensures _ refl refl)
+    (omega (arith, c .before .before .before .before .before .before .before .if2 .left))))
 
 pub trim-spec : {M : Type 1} → statement M
 trim-spec =
