@@ -235,13 +235,13 @@ pub fn close(
 // What stands for a smallest snapshot where there is none: it is above all numbers of 32 bits.
 pub const NO_SNAPSHOT: u64 = 4294967296;
 
-// Whether one of the four clients from this one on is open. All are looked at, so that they are tested at once.
+// Whether one of the eight clients from this one on is open. All are looked at, so that they are tested at once.
 fn some_open(number: &[u32; CLIENTS], from: usize) -> bool
-    requires { ⌜ from + 4 ≤ clients ⌝ }
-    ensures { λ r. ⌜ (r ≡ false → AllClosed (now (number .entry)) from (from + 4)) ⌝ }
+    requires { ⌜ from + 8 ≤ clients ⌝ }
+    ensures { λ r. ⌜ (r ≡ false → AllClosed (now (number .entry)) from (from + 8)) ⌝ }
 {
     let mut open = false;
-    for j in 0..4 {
+    for j in 0..8 {
         if number[from + j] != 0 {
             open = true;
         }
@@ -260,28 +260,28 @@ fn lower(best: u64, number: u32, snapshot: u32) -> u64
     if s < best { s } else { best }
 }
 
-// The smallest snapshot of these four and the clients before them, whose own it is given.
-fn four_more(number: &[u32; CLIENTS], snapshot: &[u32; CLIENTS], from: usize, best: u64) -> u64
-    requires { ⌜ from + 4 ≤ clients ⌝ }
+// The smallest snapshot of these eight and the clients before them, whose own it is given.
+fn eight_more(number: &[u32; CLIENTS], snapshot: &[u32; CLIENTS], from: usize, best: u64) -> u64
+    requires { ⌜ from + 8 ≤ clients ⌝ }
     ensures { λ r. ⌜ (SmallestOpen (now (number .entry)) (now (snapshot .entry)) from best
-        → SmallestOpen (now (number .entry)) (now (snapshot .entry)) (from + 4) r) ⌝ }
+        → SmallestOpen (now (number .entry)) (now (snapshot .entry)) (from + 8) r) ⌝ }
 {
     let mut next = best;
-    for j in 0..4 {
+    for j in 0..8 {
         next = lower(next, number[from + j], snapshot[from + j]);
     }
     next
 }
 
-// The smallest snapshot of open transactions, in every image with these columns. Most clients are closed: four at a
+// The smallest snapshot of open transactions, in every image with these columns. Most clients are closed: eight at a
 // time are passed.
 pub fn smallest_open(number: &[u32; CLIENTS], snapshot: &[u32; CLIENTS]) -> u64
     ensures { λ r. ⌜ SmallestOpen (now (number .entry)) (now (snapshot .entry)) clients r ⌝ }
 {
     let mut best = NO_SNAPSHOT;
-    for t in 0..CLIENTS / 4 {
-        if some_open(number, 4 * t) {
-            best = four_more(number, snapshot, 4 * t, best);
+    for t in 0..CLIENTS / 8 {
+        if some_open(number, 8 * t) {
+            best = eight_more(number, snapshot, 8 * t, best);
         }
     }
     best

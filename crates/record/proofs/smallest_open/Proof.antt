@@ -1,4 +1,4 @@
--- `record::smallest_open`: the smallest of the clients passed, four at a time.
+-- `record::smallest_open`: the smallest of the clients passed, eight at a time.
 -- Assumes nothing.
 use mathlib.Core.Path.{_≡_, refl, sym, _∙_}
 use mathlib.Core.Logic.{⊎-elim}
@@ -12,10 +12,10 @@ use Rattle.record.proofs.smallest_open.Statement.{statement}
 use Rattle.record.proofs.smallest_open.Tie as tie
 
 abbrev Inv-loop : tie.InvT-loop
-Inv-loop numbers snapshots best₀ t₀ best t = (t ≤ 16) × SmallestOpen numbers snapshots (4 * t) best
+Inv-loop numbers snapshots best₀ t₀ best t = (t ≤ 8) × SmallestOpen numbers snapshots (8 * t) best
 
 abbrev μ-loop : tie.MeasureT-loop
-μ-loop numbers snapshots best₀ t₀ best t = 16 - t
+μ-loop numbers snapshots best₀ t₀ best t = 8 - t
 
 loop-holds : tie.Need-loop-holds Inv-loop μ-loop
 unfolding readers smallest shortNumber
@@ -24,13 +24,13 @@ loop-holds c = (search needs, λ x n s. refl)
 some-open-requires : tie.Need-some-open-requires Inv-loop μ-loop
 some-open-requires c κs = omega arith
 
-four-more-requires : tie.Need-four-more-requires Inv-loop μ-loop
-four-more-requires c κs = omega arith
+eight-more-requires : tie.Need-eight-more-requires Inv-loop μ-loop
+eight-more-requires c κs = omega arith
 
 loop-again : tie.Need-loop-again Inv-loop μ-loop
 loop-again c =
     let l = c .before .before .before .loop in
-    let z : 4 * (l .t + 1) ≡ 4 * l .t + 4 = omega arith in (
+    let z : 8 * (l .t + 1) ≡ 8 * l .t + 8 = omega arith in (
       search needs,
       λ x n s. rw z
           (⊎-elim
@@ -40,7 +40,7 @@ loop-again c =
     )
 
 returns : tie.Need-returns Inv-loop μ-loop
-returns c = let e : c .before .loop .t ≡ 16 = omega arith in rw e at (c .before .loop .inv .1)
+returns c = let e : c .before .loop .t ≡ 8 = omega arith in rw e at (c .before .loop .inv .1)
 
 pub smallest-open-spec : {M : Type 1} → statement M
 smallest-open-spec =
@@ -52,7 +52,7 @@ smallest-open-spec =
     (λ c. search needs)
     some-open-requires
     (λ c. search needs)
-    four-more-requires
+    eight-more-requires
     (λ c. search needs)
     (λ c. search needs)
     loop-again

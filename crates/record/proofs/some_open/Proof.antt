@@ -12,10 +12,10 @@ use Rattle.record.proofs.some_open.Statement.{statement}
 use Rattle.record.proofs.some_open.Tie as tie
 
 abbrev Inv-loop : tie.InvT-loop
-Inv-loop number from some₀ j₀ some j = (j ≤ 4) × (some ≡ false → AllClosed number from (from + j))
+Inv-loop number from some₀ j₀ some j = (j ≤ 8) × (some ≡ false → AllClosed number from (from + j))
 
 abbrev μ-loop : tie.MeasureT-loop
-μ-loop number from some₀ j₀ some j = 4 - j
+μ-loop number from some₀ j₀ some j = 8 - j
 
 loop-holds : tie.Need-loop-holds Inv-loop μ-loop
 loop-holds c = let z : c .args .from + 0 ≡ c .args .from = omega arith in (search needs, λ e x n. rw z)
@@ -33,7 +33,7 @@ loop-again c =
 
 returns : tie.Need-returns Inv-loop μ-loop
 returns c =
-    let same : c .before .loop .j ≡ 4 = omega arith in
+    let same : c .before .loop .j ≡ 8 = omega arith in
     rw same at (c .before .loop .inv .1)
 
 pub some-open-spec : {M : Type 1} → statement M

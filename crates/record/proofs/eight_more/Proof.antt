@@ -1,4 +1,4 @@
--- `record::four_more`: the smallest of the clients passed.
+-- `record::eight_more`: the smallest of the clients passed.
 -- Assumes nothing.
 use mathlib.Core.Path.{_≡_}
 use Prim.Native.Nat.{_+_, _≤_, _-_}
@@ -6,15 +6,15 @@ use native.Mathlib.Omega.{arith}
 use borrow.Author.Needs.{needs}
 use Rattle.record.specs.Inner.{SmallestOpen}
 use Rattle.record.proofs.Smallest.{one-lower}
-use Rattle.record.proofs.four_more.Statement.{statement}
-use Rattle.record.proofs.four_more.Tie as tie
+use Rattle.record.proofs.eight_more.Statement.{statement}
+use Rattle.record.proofs.eight_more.Tie as tie
 
 abbrev Inv-loop : tie.InvT-loop
 Inv-loop number snapshot from best next₀ j₀ next j =
-    (j ≤ 4) × (SmallestOpen number snapshot from best → SmallestOpen number snapshot (from + j) next)
+    (j ≤ 8) × (SmallestOpen number snapshot from best → SmallestOpen number snapshot (from + j) next)
 
 abbrev μ-loop : tie.MeasureT-loop
-μ-loop number snapshot from best next₀ j₀ next j = 4 - j
+μ-loop number snapshot from best next₀ j₀ next j = 8 - j
 
 loop-holds : tie.Need-loop-holds Inv-loop μ-loop
 loop-holds c = let z : c .args .from + 0 ≡ c .args .from = omega arith in (search needs, λ f. rw z f)
@@ -30,11 +30,11 @@ loop-again c =
 
 returns : tie.Need-returns Inv-loop μ-loop
 returns c =
-    let same : c .before .loop .j ≡ 4 = omega arith in
+    let same : c .before .loop .j ≡ 8 = omega arith in
     rw same at (c .before .loop .inv .1)
 
-pub four-more-spec : {M : Type 1} → statement M
-four-more-spec =
+pub eight-more-spec : {M : Type 1} → statement M
+eight-more-spec =
     tie.close
     (tie.spec
     Inv-loop
