@@ -1,6 +1,6 @@
 // The row that a read finds. Rows are gone through from the last to the first, where the newest version of a cell is
-// likely met first: once one is known, committed rows numbered below it are passed over, and so are data rows whose
-// tag no other committed row can have. No order of the rows is relied on.
+// likely met first: once one is known, committed rows numbered below it are passed over, and so are data rows with
+// tags below all that the other committed rows and the reader have. No order of the rows is relied on.
 ghost use mathlib.Core.Path.{_≡_};
 ghost use mathlib.Core.List.{List};
 ghost use Prim.Native.Nat.{ℕ, _+_, _*_, _≤_, _<_};
