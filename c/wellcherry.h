@@ -22,14 +22,15 @@
  * it only takes the record apart and puts the answers where they are wanted.
  *
  * WHO OWNS WHAT. The library allocates nothing, keeps nothing between calls and calls nothing but memcpy and memset.
- * All memory is the program's: the record and two buffers, and together they are the whole store. They may be copied,
- * moved, saved and read back as bytes.
+ * All memory is the program's: the record, the version table and two buffers, and together they are the whole store.
+ * They may be copied, moved, saved and read back as bytes.
  *     data buffer        24 bytes a row: tag (4), cell (2), zero (2), value (16)
  *     committed buffer    8 bytes a row: commit number (4), tag (4)
+ *     version table       an entry (uint32_t) for each of the 1,024 cells: the newest commit that reads have found
  * Numbers in the buffers are little-endian. Both have the same number of rows, 1 to 1,024.
  *
- * WHAT MAY NOT OVERLAP. The record, the two buffers, a value that is passed and the results are distinct objects: no
- * two of them share a byte. A length is that of the object behind its pointer; a pointer with length 0 may be NULL.
+ * WHAT MAY NOT OVERLAP. The record, the version table, the two buffers, a value that is passed and the results are
+ * distinct objects: no two of them share a byte. A length is that of the object behind its pointer; a pointer with length 0 may be NULL.
  *
  * THREADS. There are no threads in the library, and no locks: one caller at a time for each record. Calls on
  * different records with different buffers need no care. The library is reentrant and may be called from a signal
@@ -38,8 +39,8 @@
  * STACK. No call needs more than WELLCHERRY_STACK bytes.
  *
  * ANSWERS. Each call returns WELLCHERRY_OK where it is answered, and else the number of its refusal. A refused call
- * changes no byte of the record or of a buffer, and gives 0 for whatever it hands back (set-up's own rule stands
- * with it). Where more than one refusal would apply, the first in the order of the call's list is given. A pointer
+ * changes no byte of the record, of a buffer or of the version table, and gives 0 for whatever it hands back (set-up's
+ * own rule stands with it). Where more than one refusal would apply, the first in the order of the call's list is given. A pointer
  * to a result may be NULL where the result is not wanted. */
 #ifndef WELLCHERRY_H
 #define WELLCHERRY_H
@@ -51,7 +52,7 @@
 extern "C" {
 #endif
 
-#define WELLCHERRY_VERSION "0.1.0"
+#define WELLCHERRY_VERSION "0.2.0"
 
 #define WELLCHERRY_CLIENTS 64
 #define WELLCHERRY_CELLS 1024
@@ -75,8 +76,9 @@ enum wellcherry_refusal {
      * as many, the first number is 0 or the limit above 64 */
     WELLCHERRY_BAD_SET_UP = 1,
     /* the record and the buffers are not those of one set-up: a length is another, a row count is above the rows,
-     * the rows are not 1 to 1,024, or a stage is above 13. Advance also where request or commit numbers are used up
-     * or the committed buffer is full, which calls alone do not lead to */
+     * the rows are not 1 to 1,024, or a stage is above 13. Read also where the version table has not 1,024 entries;
+     * Advance also where request or commit numbers are used up or the committed buffer is full, which calls alone do
+     * not lead to */
     WELLCHERRY_UNFIT = 2,
     /* the client is above 63 */
     WELLCHERRY_NO_CLIENT = 3,
@@ -134,9 +136,11 @@ struct wellcherry_record {
     uint64_t commit_waits[WELLCHERRY_CLIENTS];  /* for whom it waits before the commit is made */
 };
 
-/* A record and the buffers that it is used with. The program keeps all three for as long as it uses them. */
+/* A record, the version table and the buffers that they are used with. The program keeps all of them for as long as it
+ * uses them. */
 struct wellcherry {
     struct wellcherry_record record;
+    uint32_t versions[WELLCHERRY_CELLS]; /* by cell: reads look from this commit on, where it is up to their snapshot */
     uint8_t *data;
     size_t data_bytes;
     uint8_t *committed;
@@ -174,7 +178,8 @@ struct wellcherry_figure_given wellcherry_call_set_up(
     struct wellcherry_head *head,
     uint32_t *stage, uint32_t *number, uint32_t *snapshot, uint32_t *request, uint32_t *commit,
     uint64_t *request_waits, uint64_t *commit_waits,
-    uint8_t *data, size_t data_bytes, uint8_t *committed, size_t committed_bytes, uint32_t first, uint32_t limit);
+    uint8_t *data, size_t data_bytes, uint8_t *committed, size_t committed_bytes, uint32_t *versions,
+    uint32_t first, uint32_t limit);
 struct wellcherry_begin_given wellcherry_call_begin(
     struct wellcherry_head *head,
     uint32_t *stage, uint32_t *number, uint32_t *snapshot, uint32_t *request, uint32_t *commit,
@@ -184,7 +189,7 @@ struct wellcherry_read_given wellcherry_call_read(
     const struct wellcherry_head *head,
     const uint32_t *stage, const uint32_t *number, const uint32_t *snapshot,
     const uint8_t *data, size_t data_bytes, const uint8_t *committed, size_t committed_bytes,
-    uint32_t client, uint32_t cell);
+    uint32_t *versions, size_t version_count, uint32_t client, uint32_t cell);
 struct wellcherry_figure_given wellcherry_call_write(
     struct wellcherry_head *head,
     const uint32_t *stage, const uint32_t *number,
@@ -221,17 +226,17 @@ static inline uint32_t wellcherry_put(uint32_t *result, uint32_t value, uint32_t
 
 /* ---- The calls */
 
-/* Set-up: a new store in two buffers, which become zero. `first` is the first transaction number, 1 as a rule and
+/* Set-up: a new store in two buffers, which become zero, as does the version table. `first` is the first transaction number, 1 as a rule and
  * never 0. `limit` is how many cells a transaction may write, 1 to 64; 0 stands for 8. The buffers are kept in the
  * house, and the later calls use them there.
  * Gives the free figure: the data rows not in use.
- * Refused: BAD_SET_UP (1). The record is then all zeros, so that every call on the house is refused with UNFIT, and
- * the buffers keep their bytes. */
+ * Refused: BAD_SET_UP (1). The record and the version table are then all zeros, so that every call on the house is
+ * refused with UNFIT, and the buffers keep their bytes. */
 static inline uint32_t wellcherry_set_up(struct wellcherry *house, uint8_t *data, size_t data_bytes,
                                          uint8_t *committed, size_t committed_bytes, uint32_t first, uint32_t limit,
                                          uint32_t *free_rows) {
     const struct wellcherry_figure_given given = wellcherry_call_set_up(
-        WELLCHERRY_RECORD(house->record), data, data_bytes, committed, committed_bytes, first, limit);
+        WELLCHERRY_RECORD(house->record), data, data_bytes, committed, committed_bytes, house->versions, first, limit);
     house->data = data;
     house->data_bytes = data_bytes;
     house->committed = committed;
@@ -252,15 +257,16 @@ static inline uint32_t wellcherry_begin(struct wellcherry *house, uint32_t clien
 }
 
 /* Read: the client's own write of the cell, or else the value at its snapshot. Answered until its commit is made,
- * also while it waits. Changes nothing.
+ * also while it waits. Changes nothing but the cell's entry in the version table: a commit above it that is found is
+ * stored there, and later reads look from it on.
  * Gives a pointer to the 16 bytes where they stand in the data buffer, good until the next write, advance, abandon,
  * trim or set-up of the house; NULL for a cell that is unwritten, and where the call is refused.
  * Refused: UNFIT (2), NO_CLIENT (3), NO_CELL (4), NOT_OPEN (6), WRONG_STAGE (7) at stages 12 and 13. */
-static inline uint32_t wellcherry_read(const struct wellcherry *house, uint32_t client, uint32_t cell,
+static inline uint32_t wellcherry_read(struct wellcherry *house, uint32_t client, uint32_t cell,
                                        const uint8_t **value) {
     const struct wellcherry_read_given given =
         wellcherry_call_read(&house->record.head, house->record.stage, house->record.number, house->record.snapshot,
-                             WELLCHERRY_BUFFERS(house), client, cell);
+                             WELLCHERRY_BUFFERS(house), house->versions, WELLCHERRY_CELLS, client, cell);
     if (value) *value = given.found ? house->data + given.row * WELLCHERRY_DATA_ROW + WELLCHERRY_VALUE_AT : NULL;
     return given.refusal;
 }

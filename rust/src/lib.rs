@@ -1,11 +1,11 @@
-//! The house store for Rust programs: the calls of libwellcherry.a on a record and two
-//! buffers that the caller holds. Answers are the papers': a refusal is its number. What
+//! The house store for Rust programs: the calls of libwellcherry.a on a record, a version
+//! table and two buffers that the caller holds. Answers are the papers': a refusal is its number. What
 //! each call does stands in c/wellcherry.h.
 #![warn(missing_docs)]
 
 pub mod raw;
 
-pub use raw::{Head, Record, CLIENTS};
+pub use raw::{Head, Record, CELLS, CLIENTS};
 
 /// Bytes of a data row.
 pub const DATA_ROW: usize = 24;
@@ -15,6 +15,9 @@ pub const COMMITTED_ROW: usize = 8;
 pub const VALUE: usize = 16;
 /// Where in its data row a value stands.
 pub const VALUE_AT: usize = 8;
+
+/// A version table: an entry for each cell, the newest commit that reads have found.
+pub type Versions = [u32; CELLS];
 
 /// What an Advance comes to.
 #[derive(Clone, Copy, Debug, PartialEq, Eq)]
@@ -82,11 +85,12 @@ impl Record {
         commit_waits: [0; CLIENTS],
     };
 
-    /// Set-up: a new record in this one's place, both buffers zeroed. Gives the free figure.
+    /// Set-up: a new record in this one's place, both buffers and the version table zeroed. Gives the free figure.
     pub fn set_up(
         &mut self,
         data: &mut [u8],
         committed: &mut [u8],
+        versions: &mut Versions,
         first: u32,
         limit: u32,
     ) -> Answer<u32> {
@@ -97,6 +101,7 @@ impl Record {
             data.len(),
             committed.as_mut_ptr(),
             committed.len(),
+            versions.as_mut_ptr(),
             first,
             limit
         );
@@ -117,11 +122,13 @@ impl Record {
         answered(given.refusal, (given.number, given.snapshot))
     }
 
-    /// Read: in which data row the value stands; none for an unwritten cell.
+    /// Read: in which data row the value stands; none for an unwritten cell. It may raise the cell's entry in the
+    /// version table, which has to have [`CELLS`] entries.
     pub fn read_row(
         &self,
         data: &[u8],
         committed: &[u8],
+        versions: &mut [u32],
         client: u32,
         cell: u32,
     ) -> Answer<Option<usize>> {
@@ -135,6 +142,8 @@ impl Record {
                 data.len(),
                 committed.as_ptr(),
                 committed.len(),
+                versions.as_mut_ptr(),
+                versions.len(),
                 client,
                 cell,
             )
@@ -152,10 +161,11 @@ impl Record {
         &self,
         data: &'a [u8],
         committed: &[u8],
+        versions: &mut [u32],
         client: u32,
         cell: u32,
     ) -> Answer<Option<&'a [u8]>> {
-        let row = self.read_row(data, committed, client, cell)?;
+        let row = self.read_row(data, committed, versions, client, cell)?;
         Ok(row.map(|row| &data[row * DATA_ROW + VALUE_AT..][..VALUE]))
     }
 

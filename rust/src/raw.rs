@@ -3,6 +3,8 @@
 
 /// How many clients there are.
 pub const CLIENTS: usize = 64;
+/// How many cells there are, and entries of a version table.
+pub const CELLS: usize = 1024;
 
 /// The numbers of a record.
 #[repr(C)]
@@ -73,6 +75,7 @@ extern "C" {
         data_bytes: usize,
         committed: *mut u8,
         committed_bytes: usize,
+        versions: *mut u32,
         first: u32,
         limit: u32,
     ) -> FigureGiven;
@@ -100,6 +103,8 @@ extern "C" {
         data_bytes: usize,
         committed: *const u8,
         committed_bytes: usize,
+        versions: *mut u32,
+        version_count: usize,
         client: u32,
         cell: u32,
     ) -> ReadGiven;

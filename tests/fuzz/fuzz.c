@@ -1,10 +1,10 @@
 /* fuzz CALLS [SEED]: random calls on random houses. Half of the houses grow from their set-up; the others are
- * damaged time and again, record, bytes and lengths.
+ * damaged time and again, record, bytes, version table and lengths.
  *
  * Each object that is lent stands by itself between two forbidden pages, against the one or the other, so that a
  * byte touched outside it stops the run. (The library is not instrumented: a sanitizer sees nothing inside it.) Each
  * call is made twice: by the archive's function on a copy of the house, with a place of its own for each part of
- * the record, and by the header's call on the house.
+ * the record, and by the header's call on the house. A Read is now and then lent a version table of another length.
  *
  * Checked at each call: both give the same and leave the same record and bytes; a refused call gives zeros and
  * changes nothing; an answered one changes nothing that is not its own to change; the refusal is one of the call's
@@ -21,7 +21,7 @@ enum { LONG_RUN = 1000000 };
 /* ---- The calls, and what is known of each */
 
 enum kind { SET_UP, BEGIN, READ, WRITE, ADVANCE, ABANDON, TRIM, FREE, KINDS };
-enum part { HEAD = 1, CLIENTS = 2, DATA = 4, COMMITTED = 8 };
+enum part { HEAD = 1, CLIENTS = 2, DATA = 4, COMMITTED = 8, VERSIONS = 16 };
 
 enum { REFUSALS = WELLCHERRY_WRONG_LENGTH + 1, PROGRESSES = WELLCHERRY_DONE + 1 };
 #define REFUSAL(name) (1u << WELLCHERRY_##name)
@@ -32,9 +32,9 @@ static const struct {
     uint32_t refusals; /* its list, one bit each, and that of OK */
     uint32_t changes;  /* the parts that it may change where it is answered */
 } calls_known[KINDS] = {
-    {"set-up", REFUSAL(OK) | REFUSAL(BAD_SET_UP), HEAD | CLIENTS | DATA | COMMITTED},
+    {"set-up", REFUSAL(OK) | REFUSAL(BAD_SET_UP), HEAD | CLIENTS | DATA | COMMITTED | VERSIONS},
     {"begin", NAMED | REFUSAL(ALREADY_OPEN) | REFUSAL(NUMBERS_USED_UP), HEAD | CLIENTS},
-    {"read", NAMED | REFUSAL(NO_CELL) | REFUSAL(NOT_OPEN) | REFUSAL(WRONG_STAGE), 0},
+    {"read", NAMED | REFUSAL(NO_CELL) | REFUSAL(NOT_OPEN) | REFUSAL(WRONG_STAGE), VERSIONS},
     {"write",
      NAMED | REFUSAL(NO_CELL) | REFUSAL(WRONG_LENGTH) | REFUSAL(NOT_OPEN) | REFUSAL(WRONG_STAGE) |
          REFUSAL(CELL_LIMIT) | REFUSAL(NO_FREE_ROW),
@@ -67,6 +67,7 @@ struct apart {
     size_t data_bytes;
     uint8_t *committed;
     size_t committed_bytes;
+    uint32_t *versions;
 };
 
 /* ---- The places */
@@ -74,7 +75,7 @@ struct apart {
 enum { DATA_ROOM = 25 * WELLCHERRY_MAX_ROWS, COMMITTED_ROOM = 9 * WELLCHERRY_MAX_ROWS };
 
 static struct area house_area, data_area, committed_area, value_area, first_area, second_area, pointer_area;
-static struct area part_areas[8], data_copy_area, committed_copy_area;
+static struct area part_areas[8], data_copy_area, committed_copy_area, versions_area;
 
 static struct wellcherry *house;
 static struct apart copy;
@@ -88,6 +89,7 @@ static void make_areas(void) {
     data_copy_area = new_area(DATA_ROOM);
     committed_area = new_area(COMMITTED_ROOM);
     committed_copy_area = new_area(COMMITTED_ROOM);
+    versions_area = new_area(2 * sizeof house->versions);
     value_area = new_area(sizeof value_before);
     first_area = new_area(sizeof(uint32_t));
     second_area = new_area(sizeof(uint32_t));
@@ -123,6 +125,7 @@ static struct call call;
 static int damaged; /* whether the house is; else it grows from its set-up */
 /* the calls on houses that grow, and on those that are damaged */
 static uint64_t met[2][KINDS][REFUSALS], progress_met[2][PROGRESSES], found_met[2][2], dropped_met[2][2];
+static uint64_t noted_met[2][2], other_tables_met[2];
 
 typedef unsigned long long wide; /* for printf */
 
@@ -173,6 +176,13 @@ static struct given figure(struct wellcherry_figure_given given) {
     (c)->head, (c)->stage, (c)->number, (c)->snapshot, (c)->request, (c)->commit, (c)->request_waits, (c)->commit_waits
 /* clang-format on */
 
+/* lent a version table of so many entries */
+static struct wellcherry_read_given read_by_parts(size_t version_count) {
+    struct apart *const c = &copy;
+    return wellcherry_call_read(c->head, c->stage, c->number, c->snapshot, WELLCHERRY_BUFFERS(c), c->versions,
+                                version_count, call.client, call.cell);
+}
+
 static struct given by_parts(void) {
     struct wellcherry_begin_given begun;
     struct wellcherry_read_given read;
@@ -180,13 +190,12 @@ static struct given by_parts(void) {
     struct apart *const c = &copy;
     switch (call.kind) {
     case SET_UP:
-        return figure(wellcherry_call_set_up(RECORD_APART(c), WELLCHERRY_BUFFERS(c), call.first, call.limit));
+        return figure(wellcherry_call_set_up(RECORD_APART(c), WELLCHERRY_BUFFERS(c), c->versions, call.first, call.limit));
     case BEGIN:
         begun = wellcherry_call_begin(RECORD_APART(c), WELLCHERRY_BUFFERS(c), call.client);
         return (struct given){begun.refusal, begun.number, begun.snapshot};
     case READ:
-        read = wellcherry_call_read(c->head, c->stage, c->number, c->snapshot, WELLCHERRY_BUFFERS(c), call.client,
-                                    call.cell);
+        read = read_by_parts(WELLCHERRY_CELLS);
         return (struct given){read.refusal, read.found, (uint32_t)read.row};
     case WRITE:
         return figure(wellcherry_call_write(c->head, c->stage, c->number, WELLCHERRY_BUFFERS(c), call.client,
@@ -223,6 +232,8 @@ static void copy_house(void) {
     copy.committed_bytes = house->committed_bytes;
     copy.committed = buffer(&committed_copy_area, copy.committed_bytes);
     copy_bytes(copy.committed, house->committed, copy.committed_bytes);
+    copy.versions = place(&versions_area, sizeof house->versions, one_in(2));
+    copy_bytes(copy.versions, house->versions, sizeof house->versions);
 }
 
 static void remember(void) {
@@ -248,6 +259,8 @@ static void check_kept(uint32_t may_change) {
         fault("the data buffer changed");
     if (!(may_change & COMMITTED) && !same_bytes(house->committed, committed_before, before.committed_bytes))
         fault("the committed buffer changed");
+    if (!(may_change & VERSIONS) && !same_bytes(house->versions, before.versions, sizeof house->versions))
+        fault("the version table changed");
     if (!same_bytes(call.value, value_before, call.value_bytes)) fault("the value changed");
     if (house->data != before.data || house->data_bytes != before.data_bytes ||
         house->committed != before.committed || house->committed_bytes != before.committed_bytes)
@@ -268,6 +281,8 @@ static void check_same(void) {
     if (!same_bytes(house->data, copy.data, copy.data_bytes)) fault("the same call leaves other data on a copy");
     if (!same_bytes(house->committed, copy.committed, copy.committed_bytes))
         fault("the same call leaves other committed rows on a copy");
+    if (!same_bytes(house->versions, copy.versions, sizeof house->versions))
+        fault("the same call leaves another version table on a copy");
 }
 
 static uint32_t ones(uint64_t set) {
@@ -284,7 +299,8 @@ static int set_up_agrees(const struct given *given) {
     fresh.head.limit = call.limit ? call.limit : 8;
     fresh.head.issued = call.first - 1;
     return given->first == rows && same_bytes(&house->record, &fresh, sizeof fresh) &&
-           all_zero(house->data, house->data_bytes) && all_zero(house->committed, house->committed_bytes);
+           all_zero(house->data, house->data_bytes) && all_zero(house->committed, house->committed_bytes) &&
+           all_zero(house->versions, sizeof house->versions);
 }
 
 static int begin_agrees(const struct given *given) {
@@ -295,9 +311,19 @@ static int begin_agrees(const struct given *given) {
            !(r->stage[k] | r->request[k] | r->commit[k]) && !(r->request_waits[k] | r->commit_waits[k]);
 }
 
+/* the version table, after a read: all as it was, or the cell's entry higher, up to the snapshot */
+static int versions_agree(void) {
+    const uint32_t now = house->versions[call.cell], then = before.versions[call.cell];
+    before.versions[call.cell] = now;
+    return same_bytes(house->versions, before.versions, sizeof before.versions) &&
+           (now == then || (now > then && now <= house->record.snapshot[call.client]));
+}
+
 /* a row in use with the cell that was asked for, or nothing; the layout is the papers', not the header's */
 static int read_agrees(const struct given *given) {
     const uint8_t *row;
+    noted_met[damaged][house->versions[call.cell] != before.versions[call.cell]]++;
+    if (!versions_agree()) return 0;
     if (!given->first) return given->second == 0;
     if (given->first != 1 || given->second >= house->record.head.used) return 0;
     row = house->data + (size_t)given->second * 24;
@@ -345,7 +371,8 @@ static void check(const struct given *given, int other_lengths) {
     if (refusal && (given->first || given->second)) fault("refused, and gives something");
     if (refusal == WELLCHERRY_BAD_SET_UP) {
         if (!all_zero(&house->record, sizeof house->record)) fault("refused, and the record is not zero");
-        check_kept(HEAD | CLIENTS);
+        if (!all_zero(house->versions, sizeof house->versions)) fault("refused, and the version table is not zero");
+        check_kept(HEAD | CLIENTS | VERSIONS);
     } else {
         check_kept(refusal ? 0 : calls_known[call.kind].changes);
     }
@@ -392,12 +419,27 @@ static struct given collect(uint32_t refusal, const struct results *from, struct
     return given;
 }
 
+/* a Read that is lent a version table of another length: unfit, and nothing changes */
+static void read_other_table(void) {
+    const size_t count = one_in(2) ? below(WELLCHERRY_CELLS) : WELLCHERRY_CELLS + 1 + below(WELLCHERRY_CELLS);
+    struct wellcherry_read_given given;
+    copy_house();
+    copy.versions = place(&versions_area, count * sizeof *copy.versions, one_in(2));
+    for (size_t i = 0; i < count; i++) copy.versions[i] = (uint32_t)i;
+    given = read_by_parts(count);
+    if (given.refusal != WELLCHERRY_UNFIT || given.found || given.row) fault("a version table of another length is read");
+    for (size_t i = 0; i < count; i++)
+        if (copy.versions[i] != i) fault("a version table of another length changed");
+    other_tables_met[damaged]++;
+}
+
 static void make_call(int other_lengths) {
     struct results to;
     struct given given, same;
     to.first = exact(&first_area, sizeof *to.first);
     to.second = exact(&second_area, sizeof *to.second);
     to.value = exact(&pointer_area, sizeof *to.value);
+    if (call.kind == READ && one_in(20)) read_other_table();
     remember();
     copy_house();
     same = by_parts();
@@ -419,6 +461,7 @@ static void choose_set_up(void) {
     const struct wellcherry old = *house;
     house = place(&house_area, sizeof *house, one_in(2));
     *house = old;
+    if (one_in(2)) memset(house->versions, 0xa5, sizeof house->versions);
     house->data_bytes = WELLCHERRY_DATA_BYTES(rows);
     house->committed_bytes = WELLCHERRY_COMMITTED_BYTES(rows);
     if (one_in(20)) house->data_bytes = below(one_in(2) ? 80 : DATA_ROOM);
@@ -484,6 +527,11 @@ static void damage(void) {
     if (one_in(60)) damage_bytes(house->data, house->data_bytes);
     if (one_in(60)) damage_bytes(house->committed, house->committed_bytes);
     if (one_in(100)) make_up(house);
+    if (one_in(60)) {
+        const int all = one_in(4);
+        for (uint32_t cell = 0; cell < WELLCHERRY_CELLS; cell++)
+            if (all || one_in(200)) house->versions[cell] = odd_number();
+    }
 }
 
 /* another length for this call alone */
@@ -548,6 +596,9 @@ static void print_table(int which) {
     print_count(", done ", progress_met[which][WELLCHERRY_DONE], 1);
     print_count("; read: value ", found_met[which][1], 1);
     print_count(", unwritten ", found_met[which][0], 1);
+    print_count(", noted ", noted_met[which][1], 1);
+    print_count(", not ", noted_met[which][0], 1);
+    print_count(", other tables ", other_tables_met[which], 1);
     print_count("; trim: some ", dropped_met[which][1], 1);
     print_count(", none ", dropped_met[which][0], 1);
     printf("\n");

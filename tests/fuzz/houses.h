@@ -90,6 +90,7 @@ static inline void make_up(struct wellcherry *house) {
     if (rows == 0 || house->committed_bytes < WELLCHERRY_COMMITTED_BYTES(rows)) return;
     make_up_rows(house->data, house->committed, rows, one_in(2));
     memset(record, 0, sizeof *record);
+    for (uint32_t cell = 0; cell < WELLCHERRY_CELLS; cell++) house->versions[cell] = one_in(2) ? 0 : below(2 * rows + 2);
     record->head.rows = rows;
     record->head.limit = below(66);
     record->head.issued = rows;

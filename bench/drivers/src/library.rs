@@ -2,10 +2,11 @@
 
 use crate::engine::{buffers, owned, Engine};
 use baseline::Progress;
-use wellcherry::Record;
+use wellcherry::{Record, Versions, CELLS};
 
 pub struct Library {
     record: Record,
+    versions: Versions,
     data: Vec<u8>,
     committed: Vec<u8>,
 }
@@ -13,11 +14,11 @@ pub struct Library {
 impl Engine for Library {
     fn unset(rows: usize) -> Library {
         let (data, committed) = buffers(rows);
-        Library { record: Record::NONE, data, committed }
+        Library { record: Record::NONE, versions: [0; CELLS], data, committed }
     }
     #[inline(never)]
     fn set_up(&mut self, limit: u32) -> Result<u32, u32> {
-        self.record.set_up(&mut self.data, &mut self.committed, 1, limit)
+        self.record.set_up(&mut self.data, &mut self.committed, &mut self.versions, 1, limit)
     }
     #[inline(never)]
     fn begin(&mut self, client: u32) -> Result<(u32, u32), u32> {
@@ -25,7 +26,8 @@ impl Engine for Library {
     }
     #[inline(never)]
     fn read(&mut self, client: u32, cell: u32) -> Result<Option<[u8; 16]>, u32> {
-        let found = self.record.read(&self.data, &self.committed, client, cell);
+        let Library { record, versions, data, committed } = self;
+        let found = record.read(data, committed, versions, client, cell);
         found.map(|found| found.map(owned))
     }
     #[inline(never)]

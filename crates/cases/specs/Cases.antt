@@ -1,6 +1,6 @@
 -- The house cases of document 01 that are marked P, as rows of one table (case 1 with the read that document 02, 1 changes, case 2 with the
--- clients of document 02, 12), two rows more for mistakes of its list that these eight let pass, and rows for document 02: one for 1, two for 2, two
--- for 9, two for 12. Then case 5 with a look after each step, case 9, and rows for sentences of document 01 that no case shows: the commit queue (two),
+-- clients of document 02, 12), two rows more for mistakes of its list that these eight let pass, and rows for document 02: one for 1, two for 2, one
+-- for 3, two for 9, two for 12. Then case 5 with a look after each step, case 9, and rows for sentences of document 01 that no case shows: the commit queue (two),
 -- an Abandon at stage 11, set-ups that are refused, lines that are no form. Each row has the lines that are put in, each with the line that is to come
 -- out. proofs/House.antt proves the whole table.
 -- Assumes nothing.
@@ -349,6 +349,68 @@ cases =
           ∷ [])
           ++ stages 0 1 13
           ++ ("(advance 0)" ⇒ "(advance 0 (done 3))"
+          ∷ []);
+    }
+    ∷ record {
+      name = "reads by the version table, at three snapshots";
+      exchanges =
+          ("(set-up 8 1 0)" ⇒ "(set-up (free 8))"
+          ∷ "(begin 0)" ⇒ "(begin 0 (number 1) (snapshot 0))"
+          ∷ "(write 0 7 000102030405060708090a0b0c0d0e0f)" ⇒ "(write 0 7 (free 7))"
+          ∷ [])
+          ++ stages 0 1 13
+          ++ ("(advance 0)" ⇒ "(advance 0 (done 1))"
+          -- the entry of cell 7 becomes 1, and a look from it on finds that commit again
+          ∷ "(begin 1)" ⇒ "(begin 1 (number 2) (snapshot 1))"
+          ∷ "(read 1 7)" ⇒ "(read 1 7 (value 000102030405060708090a0b0c0d0e0f))"
+          ∷ "(read 1 7)" ⇒ "(read 1 7 (value 000102030405060708090a0b0c0d0e0f))"
+          -- a reader at 2 leaves it at 1: commit 2 is one of cell 8
+          ∷ "(begin 0)" ⇒ "(begin 0 (number 3) (snapshot 1))"
+          ∷ "(write 0 8 0f0e0d0c0b0a09080706050403020100)" ⇒ "(write 0 8 (free 6))"
+          ∷ [])
+          ++ stages 0 1 13
+          ++ ("(advance 0)" ⇒ "(advance 0 (done 2))"
+          ∷ "(begin 2)" ⇒ "(begin 2 (number 4) (snapshot 2))"
+          ∷ "(read 2 9)" ⇒ "(read 2 9 (unwritten))"
+          ∷ "(read 2 7)" ⇒ "(read 2 7 (value 000102030405060708090a0b0c0d0e0f))"
+          ∷ "(read 2 7)" ⇒ "(read 2 7 (value 000102030405060708090a0b0c0d0e0f))"
+          -- commit 3 is one of cell 7, and its reader makes the entry 3: those at 1 and 2 look at all up to their snapshots
+          ∷ "(begin 0)" ⇒ "(begin 0 (number 5) (snapshot 2))"
+          ∷ "(write 0 7 ffeeddccbbaa99887766554433221100)" ⇒ "(write 0 7 (free 5))"
+          ∷ [])
+          ++ stages 0 1 13
+          ++ ("(advance 0)" ⇒ "(advance 0 (done 3))"
+          ∷ "(begin 3)" ⇒ "(begin 3 (number 6) (snapshot 3))"
+          ∷ "(read 3 7)" ⇒ "(read 3 7 (value ffeeddccbbaa99887766554433221100))"
+          ∷ "(read 1 7)" ⇒ "(read 1 7 (value 000102030405060708090a0b0c0d0e0f))"
+          ∷ "(read 2 7)" ⇒ "(read 2 7 (value 000102030405060708090a0b0c0d0e0f))"
+          ∷ "(read 3 7)" ⇒ "(read 3 7 (value ffeeddccbbaa99887766554433221100))"
+          -- a read of an own write leaves the entry of cell 8 at 0, that of a reader before makes it 2
+          ∷ "(write 3 8 ffeeddccbbaa99887766554433221100)" ⇒ "(write 3 8 (free 4))"
+          ∷ "(read 3 8)" ⇒ "(read 3 8 (value ffeeddccbbaa99887766554433221100))"
+          ∷ "(read 1 8)" ⇒ "(read 1 8 (unwritten))"
+          ∷ "(read 2 8)" ⇒ "(read 2 8 (value 0f0e0d0c0b0a09080706050403020100))"
+          ∷ "(read 1 8)" ⇒ "(read 1 8 (unwritten))"
+          ∷ "(abandon 3)" ⇒ "(abandon 3 (free 5))"
+          ∷ "(abandon 1)" ⇒ "(abandon 1 (free 5))"
+          -- a trim while 2 reads, and one after it
+          ∷ "(trim)" ⇒ "(trim (dropped 0))"
+          ∷ "(read 2 7)" ⇒ "(read 2 7 (value 000102030405060708090a0b0c0d0e0f))"
+          ∷ "(abandon 2)" ⇒ "(abandon 2 (free 5))"
+          ∷ "(trim)" ⇒ "(trim (dropped 1))"
+          ∷ "(begin 4)" ⇒ "(begin 4 (number 7) (snapshot 3))"
+          ∷ "(read 4 7)" ⇒ "(read 4 7 (value ffeeddccbbaa99887766554433221100))"
+          ∷ "(read 4 8)" ⇒ "(read 4 8 (value 0f0e0d0c0b0a09080706050403020100))"
+          -- a new set-up begins without entries
+          ∷ "(set-up 8 1 0)" ⇒ "(set-up (free 8))"
+          ∷ "(begin 4)" ⇒ "(begin 4 (number 1) (snapshot 0))"
+          ∷ "(read 4 7)" ⇒ "(read 4 7 (unwritten))"
+          ∷ "(write 4 7 000102030405060708090a0b0c0d0e0f)" ⇒ "(write 4 7 (free 7))"
+          ∷ [])
+          ++ stages 4 1 13
+          ++ ("(advance 4)" ⇒ "(advance 4 (done 1))"
+          ∷ "(begin 4)" ⇒ "(begin 4 (number 2) (snapshot 1))"
+          ∷ "(read 4 7)" ⇒ "(read 4 7 (value 000102030405060708090a0b0c0d0e0f))"
           ∷ []);
     }
     ∷ record {

@@ -15,10 +15,11 @@ use lib.ListN.{replicate}
 use Rattle.spec.specs.Set.{clients, bit, member, insert, remove, size, collect, strike}
 use Rattle.spec.specs.Rows.{valueOf, spliced, number, bytesOf, dataRow, tagOf, cellOf, commitRow, commitNumber, commitTag, rowAt, rowsIn}
 use Rattle.spec.specs.Rows.{rowsFrom, layout, filter, hasTag}
-use Rattle.spec.specs.Numbers.{lesser, smallest, above, upTo}
+use Rattle.spec.specs.Numbers.{lesser, smallest, above, atLeast, upTo}
 use Rattle.spec.specs.Look.{commitOf, isOwn, find, versionOf, newer, versionAt, newest, ownOr, lookFor}
+use Rattle.spec.specs.Look.{leastLooked, versionFrom, lookFrom, versionsAfter}
 use Rattle.spec.specs.Share.{any, count, wrote, cellsOf, shares, clash, conflict}
-use Rattle.spec.specs.Image.{cleared, closed, empty}
+use Rattle.spec.specs.Image.{cleared, closed, noVersions, empty}
 use Rattle.spec.specs.Calls.{begun, begin, read, replaced, added, write, removed, abandon}
 use Rattle.spec.specs.Steps.{queued, struck, others, goOn, enter, takeRequest, listRequests, looked, lookRequests, check, takeCommit}
 use Rattle.spec.specs.Steps.{listCommits, lookCommits, addCommit, leaveCommits, leaveRequests, finished, advance}
@@ -116,9 +117,9 @@ unfolding
     flatten
     bit member insert remove size collect strike
     spliced number bytesOf dataRow tagOf cellOf commitRow commitNumber commitTag rowAt rowsIn rowsFrom layout filter hasTag
-    lesser smallest above upTo commitOf isOwn find versionOf newer versionAt newest ownOr lookFor valueOf
+    lesser smallest above atLeast upTo commitOf isOwn find versionOf newer versionAt newest ownOr lookFor leastLooked versionFrom lookFrom versionsAfter valueOf
     any count wrote cellsOf shares clash conflict
-    cleared closed empty begun begin read replaced added write removed abandon
+    cleared closed noVersions empty begun begin read replaced added write removed abandon
     queued struck others goOn enter takeRequest listRequests looked lookRequests check takeCommit listCommits lookCommits addCommit
     leaveCommits leaveRequests finished advance
     decode storeOf encode known fits onBytes accepts setUp

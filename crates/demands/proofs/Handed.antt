@@ -4,16 +4,15 @@
 -- Assumes nothing.
 use Prim.Native.Nat.{ℕ, _+_, _*_, _/_, _≤_, _<_}
 use mathlib.Core.Path.{_≡_, refl, sym, ap, _∙_}
-use mathlib.Core.Bool.{Bool, true, false, not}
+use mathlib.Core.Bool.{Bool, true, false}
 use mathlib.Core.List.{List, [], _∷_, _++_, append-nil}
 use native.Mathlib.Omega.{arith}
 use borrow.Author.Tests.{lt-leb}
-use lib.Dec.{leb, ltb}
+use lib.Dec.{ltb}
 use lib.ListN.{length, drop, length-append, length-drop, take-append-drop}
 use lib.Seq.{take-append-le, drop-append-le}
 use Rattle.spec.specs.Choice.{if_then_else_}
-use Rattle.spec.specs.Set.{clients}
-use Rattle.spec.specs.Rows.{Row, rowsIn, rowAt, cells}
+use Rattle.spec.specs.Rows.{Row, rowsIn, rowAt}
 use Rattle.spec.proofs.Rows.{rows-at, length-rows}
 use Rattle.spec.specs.declared.Store.{Store}
 use Rattle.spec.specs.declared.Number.{Number}
@@ -23,11 +22,11 @@ use Rattle.spec.specs.declared.Lookup.{Lookup}
 use Rattle.spec.specs.declared.Lookup.the-variants.{Version, Nothing}
 use Rattle.spec.specs.declared.Reading.{Reading}
 use Rattle.spec.specs.declared.Reading.the-variants.{Value, Unwritten}
-use Rattle.spec.specs.Look.{isOwn, find, versionOf, newer, versionAt, newest, ownOr, lookFor}
+use Rattle.spec.specs.Look.{isOwn, find, newer, versionAt, newest, ownOr, leastLooked, versionFrom, lookFrom}
 use Rattle.spec.specs.Answers.{Answer, Answered, Refused}
-use Rattle.spec.specs.Image.{Image, stageOf, numberOf, snapshotOf, isOpen}
-use Rattle.spec.specs.Calls.{Outcome, refuse, read, reading}
-use Rattle.spec.specs.Bytes.{decode, Memory, fits, onBytes}
+use Rattle.spec.specs.Image.{Image, withVersions, numberOf, snapshotOf, entryFor}
+use Rattle.spec.specs.Calls.{Outcome, read, reading, lookOf}
+use Rattle.spec.specs.Bytes.{decode, Memory, memoryOf, afterOf, encode, fits, onBytes}
 use Rattle.spec.specs.Run.{Read, step}
 use Rattle.spec.specs.Table.{observeAnswer}
 use Rattle.spec.specs.Right.{observed}
@@ -35,6 +34,7 @@ use Rattle.spec.specs.Values.{valueRead, valueFrom}
 use Rattle.spec.specs.Text.{answerText}
 use Rattle.spec.specs.Session.{front, resultText}
 use Rattle.spec.proofs.Ends.{fit-of}
+use Rattle.history.proofs.Wellformed.{ReadEnds, refused, found, read-ends}
 use Rattle.demands.specs.OneCall.{handed, bytesIn}
 use Rattle.demands.specs.Printed.{observedText}
 use Rattle.demands.proofs.Unchanged.{encode-same}
@@ -76,11 +76,11 @@ own-in p n i (r ∷ rs) v h g = go (p r) (own-in p n (i + 1) rs v (omega arith) 
     go true w = omega arith
     go false w = w
 
-look-in : (tag cell s : ℕ) (ds cs : List Row) → InUse (length ds) (lookFor tag cell s ds cs)
-unfolding lookFor
-look-in tag cell s ds cs =
-    own-in (isOwn tag cell) (length ds) 0 ds (newest (versionOf cell s cs) 0 ds) (omega arith)
-    (newest-in (versionOf cell s cs) (length ds) 0 ds (omega arith))
+look-in : (e tag cell s : ℕ) (ds cs : List Row) → InUse (length ds) (lookFrom e tag cell s ds cs)
+unfolding lookFrom
+look-in e tag cell s ds cs =
+    let f : Row → Number = versionFrom (leastLooked e s) cell s cs in
+    own-in (isOwn tag cell) (length ds) 0 ds (newest f 0 ds) (omega arith) (newest-in f (length ds) 0 ds (omega arith))
 
 -- ---- a read, on an image and on any record and bytes
 
@@ -90,32 +90,26 @@ Names n (Answered (Value j)) = j < n
 Names n (Answered Unwritten) = Unit {0}
 Names n (Refused m) = Unit {0}
 
--- a read leaves the image, and names a row in use
+-- a read leaves all of the image but the version table, and names a row in use
 record Looks (i : Image) (o : Outcome Reading) : Type 0 where
-  same : o .image ≡ i
+  same : o .image ≡ withVersions i (o .image .versions)
   below : Names (length (i .dataRows)) (o .answer)
-
-looks-if : {i : Image} (b : Bool) {x y : Outcome Reading} → Looks i x → Looks i y → Looks i (if b then x else y)
-looks-if true f g = f
-looks-if false f g = g
-
-refused : (i : Image) (n : ℕ) → Looks i (refuse n i)
-refused i n = record { same = refl; below = tt }
 
 named : (n : ℕ) (f : Lookup) → InUse n f → Names n (Answered (reading f))
 named n (Version j m) h = h
 named n Nothing h = tt
 
 read-looks : (k x : ℕ) (i : Image) → Looks i (read k x i)
-unfolding read
-read-looks k x i =
-    looks-if (leb clients k) (refused i _) (looks-if (leb cells x) (refused i _) (looks-if (not (isOpen i k)) (refused i _)
-    (looks-if (ltb 11 (stageOf i k)) (refused i _) (record {
+read-looks k x i = go (read-ends k x i)
+  where
+    go : {o : Outcome Reading} → ReadEnds k x i o → Looks i o
+    go (refused n) = record { same = refl; below = tt }
+    go (found e) = record {
       same = refl;
       below =
-          named (length (i .dataRows)) (lookFor (numberOf i k) x (snapshotOf i k) (i .dataRows) (i .commitRows))
-          (look-in (numberOf i k) x (snapshotOf i k) (i .dataRows) (i .commitRows));
-    }))))
+          named (length (i .dataRows)) (lookOf k x i)
+          (look-in (entryFor i x) (numberOf i k) x (snapshotOf i k) (i .dataRows) (i .commitRows));
+    }
 
 -- a row that an answer names is one of m's rows in use, and m's data buffer has it
 abbrev Has : Memory → Answer Reading → Type 0
@@ -133,27 +127,33 @@ has-named m e (Refused n) h = tt
 
 -- a read leaves the record and the bytes, and names a row that is there
 record Handing (m u : Memory) (a : Answer Reading) : Type 0 where
-  same : u ≡ m
+  same : u ≡ memoryOf (m .store) (m .dataBytes) (m .commitBytes) (u .versions)
   there : Has m a
 
-rows-shown : (s : Store) (d c : List ℕ) → length (decode s d c .dataRows) ≡ s .used
+rows-shown : (s : Store) (d c v : List ℕ) → length (decode s d c v .dataRows) ≡ s .used
 unfolding decode
-rows-shown s d c = length-rows 24 (s .used) d
+rows-shown s d c v = length-rows 24 (s .used) d
+
+-- an outcome with all of the image but the version table leaves the record and the bytes
+encode-rows : {A : Type 0} (s : Store) (d c v : List ℕ) (o : Outcome A) → o .image ≡ withVersions (decode s d c v) (o .image .versions)
+    → encode s d c o ≡ afterOf s d c (o .image .versions) (o .answer)
+unfolding decode
+encode-rows s d c v o e = encode-same s d c (o .image .versions) o e
 
 hands : (k x : ℕ) (m : Memory) → Handing m (step (Read k x) m .memory) (step (Read k x) m .answer)
 unfolding onBytes
 hands k x m = go (fits (m .store) (length (m .dataBytes)) (length (m .commitBytes))) refl
   where
     i : Image
-    i = decode (m .store) (m .dataBytes) (m .commitBytes)
+    i = decode (m .store) (m .dataBytes) (m .commitBytes) (m .versions)
 
     rows : length (i .dataRows) ≡ m .store .used
-    rows = rows-shown (m .store) (m .dataBytes) (m .commitBytes)
+    rows = rows-shown (m .store) (m .dataBytes) (m .commitBytes) (m .versions)
 
     go : (b : Bool) → fits (m .store) (length (m .dataBytes)) (length (m .commitBytes)) ≡ b
         → Handing m (step (Read k x) m .memory) (step (Read k x) m .answer)
     go true e =
-        rw (e, encode-same (m .store) (m .dataBytes) (m .commitBytes) (read k x i) (read-looks k x i .same))
+        rw (e, encode-rows (m .store) (m .dataBytes) (m .commitBytes) (m .versions) (read k x i) (read-looks k x i .same))
         (record { same = refl; there = has-named m e (read k x i .answer) (rw rows at (read-looks k x i .below)) })
     go false e = rw e (record { same = refl; there = tt })
 

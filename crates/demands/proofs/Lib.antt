@@ -16,5 +16,6 @@ pub mod Drain
 pub mod Queues
 pub mod Ending
 pub mod Rounds
+pub mod Versions
 pub mod Theorem
 pub mod Listing

@@ -20,7 +20,7 @@ use Rattle.spec.specs.declared.Store.{Store}
 use Rattle.spec.specs.declared.Progress.{Progress}
 use Rattle.spec.specs.declared.Progress.the-variants.{Stage}
 use Rattle.spec.specs.Answers.{Answer, Answered}
-use Rattle.spec.specs.Image.{Image, cleared, closed, empty, numberOf, stageOf}
+use Rattle.spec.specs.Image.{Image, cleared, closed, noVersions, empty, numberOf, stageOf}
 use Rattle.spec.specs.Calls.{begun, begin, added, write, removed, abandon}
 use Rattle.spec.specs.Steps.{queued, others, goOn, enter, takeRequest, listRequests, listCommits, advance}
 use Rattle.spec.specs.Bytes.{After, limitOf, decode, storeOf, encode, known, fits, onBytes, accepts, setUp, Memory}
@@ -76,7 +76,7 @@ pub listed-once : Computed
 unfolding
     flatten bit member insert remove collect
     spliced number bytesOf dataRow tagOf cellOf rowAt rowsIn rowsFrom layout filter hasTag isOwn find
-    any count wrote cellsOf shares cleared closed empty begun begin added write removed abandon
+    any count wrote cellsOf shares cleared closed noVersions empty begun begin added write removed abandon
     queued others goOn enter takeRequest listRequests advance
     decode storeOf encode known fits onBytes accepts setUp
 listed-once = record {

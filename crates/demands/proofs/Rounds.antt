@@ -163,15 +163,24 @@ refused-table d c (q ∷ l) =
     ∙ ap (λ (x : Answer (Observed q)). tableAfter l (unused d c) (update q x blank)) (all-observe-refused d c q)
     ∙ refused-table d c l
 
-nobody-queued : (t : Table) (k : ℕ) → t ≡ blank → Queued t k → ⊥
-unfolding blank
-nobody-queued t k e q = none-some refl (ap (λ (x : Table). x .clients k) (sym e) ∙ q .1)
+-- and the memory as it was handed back
+refused-run : (d c : List ℕ) (l : List Call) → afterRun l (unused d c) ≡ unused d c
+refused-run d c [] = refl
+refused-run d c (q ∷ l) = ap (λ (a : After (Result q)). afterRun l (a .memory)) (refused-call d c q) ∙ refused-run d c l
 
--- what holds of record, buffers and table after the calls qs, if it holds of every grown image, and where nobody is at any stage
+nobody-queued : (k : ℕ) → Queued blank k → ⊥
+unfolding blank
+nobody-queued k q = none-some refl (q .1)
+
+-- every client is below `clients`
+pub all-below : (l : List Call) → AllBelow clients l
+all-below [] = tt
+all-below (q ∷ l) = (λ k e h. h, all-below l)
+
+-- what holds of memory and table after the calls qs, if it holds of every grown image, and of what a refused set-up hands back
 module _ (d c : List ℕ) (w l : ℕ) (lw : w ≤ 4294967295) (qs : List Call) (n : ℕ) (below : AllBelow n qs) (X : Memory → Table → Type 0)
-    (grown : (s : Image) (g : Grown n s) → X (encoded s) (erase (g .table))) (idle : (m : Memory) (t : Table) → ((k : ℕ) → Queued t k → ⊥)
-    → X m t) where
-  from-set-up : X (afterRun qs (setUp d c w l .memory)) (tableAfter qs (setUp d c w l .memory) blank)
+    (grown : (s : Image) (g : Grown n s) → X (encoded s) (erase (g .table))) (refused : X (unused d c) blank) where
+  pub from-set-up : X (afterRun qs (setUp d c w l .memory)) (tableAfter qs (setUp d c w l .memory) blank)
   unfolding start
   from-set-up = go (accepts (length d) (length c) w l) refl
     where
@@ -185,7 +194,10 @@ module _ (d c : List ℕ) (w l : ℕ) (lw : w ≤ 4294967295) (qs : List Call) (
           (subst (λ (x : Table). X (afterRun qs (encoded s)) (tableAfter qs (encoded s) x)) erase-empty
           (subst (λ (x : Memory). X x (tableAfter qs (encoded s) (erase own.emptyₚ))) (sym (f .memory))
           (subst (λ (x : Table). X (encoded (run s qs)) x) (sym (f .table)) (grown (run s qs) (f .grown)))))
-      go false e = idle _ _ (λ k. nobody-queued _ k (ap (λ (x : Memory). tableAfter qs x blank) (refused-memory d c w l e) ∙ refused-table d c qs))
+      go false e =
+          subst (λ (x : Memory). X (afterRun qs x) (tableAfter qs x blank)) (sym (refused-memory d c w l e))
+          (subst (λ (x : Memory). X x (tableAfter qs (unused d c) blank)) (sym (refused-run d c qs))
+          (subst (λ (x : Table). X (unused d c) x) (sym (refused-table d c qs)) refused))
 
 -- ---- the three claims
 
@@ -193,21 +205,16 @@ module _ (d c : List ℕ) (w l : ℕ) (lw : w ≤ 4294967295) (qs : List Call) w
   pub nobody-waits : NobodyWaits (setUp d c w l .memory) qs
   nobody-waits n below rounds =
       from-set-up d c w l lw qs n below (λ m t. AllBelow n (flatten rounds) → ClosedWithin (roundLimit n) m t rounds)
-      (λ s g. closed-within s g rounds) (λ m t h below rs long k q. absurd (h k q))
+      (λ s g. closed-within s g rounds) (λ below rs long k q. absurd (nobody-queued k q))
 
   pub whoever-calls : WhoeverCalls (setUp d c w l .memory) qs
   whoever-calls rounds = nobody-waits clients (all-below qs) rounds (all-below (flatten rounds))
-    where
-      -- every client is below `clients`
-      all-below : (l : List Call) → AllBelow clients l
-      all-below [] = tt
-      all-below (q ∷ l) = (λ k e h. h, all-below l)
 
   pub rounds-exist : RoundsExist (setUp d c w l .memory) qs
   rounds-exist n below = (
     turns-below n n (omega arith),
     from-set-up d c w l lw qs n below (λ m t. Round m t (inTurn n))
-        (λ s g k q. has-turn n k (encoded s) (is-below s g k (in-queue s g k q))) (λ m t h k q. absurd (h k q)),
+        (λ s g k q. has-turn n k (encoded s) (is-below s g k (in-queue s g k q))) (λ k q. absurd (nobody-queued k q)),
   )
     where
       turns-below : (n k : ℕ) → k ≤ n → AllBelow n (inTurn k)

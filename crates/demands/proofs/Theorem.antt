@@ -1,6 +1,7 @@
 -- Demand 3 holds for every set-up, refused or not, and every list of calls: crate spec has that every answer is right, with which numbers calls are
 -- refused, and whether the store is fit; what is said of the book, the values, repeated reads, enquiries and the cell limit follows from the
--- answers being right; that nobody waits for ever is shown of the queues themselves (Rounds).
+-- answers being right; that nobody waits for ever is shown of the queues themselves (Rounds), and that looks by the version table find what full
+-- looks find of the table itself (Versions).
 -- w, the first W, is a number of 32 bits by its type.
 -- Assumes nothing.
 use Prim.Native.Nat.{ℕ, _≤_}
@@ -18,6 +19,7 @@ use Rattle.demands.proofs.Enquiries.{enquiry-run}
 use Rattle.demands.proofs.Limits.{capped-run}
 use Rattle.demands.proofs.Listing.{lists-name-transactions}
 use Rattle.demands.proofs.Rounds.{nobody-waits, whoever-calls, rounds-exist}
+use Rattle.demands.proofs.Versions.{full-looks, known-entries}
 
 pub theorem : (d c : List ℕ) (w l : ℕ) → w ≤ 4294967295 → (qs : List Call) → Demand3 d c w l qs
 theorem d c w l h qs =
@@ -35,6 +37,8 @@ theorem d c w l h qs =
       whoeverCalls = whoever-calls d c w l h qs;
       roundsExist = rounds-exist d c w l h qs;
       lists = lists-name-transactions d c w l h qs;
+      fullLooks = full-looks d c w l h qs;
+      entries = known-entries d c w l h qs;
       listed = all-listed qs (setUp d c w l .memory);
       unfit = λ e. all-unfit d c w l e qs;
       fit = λ e. all-fit d c w l h e qs;

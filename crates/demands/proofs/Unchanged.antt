@@ -1,4 +1,4 @@
--- A refused call changes no byte and no record, whatever the record and the bytes were (`unchanged`): document 01, "A refused call changes nothing",
+-- A refused call changes no byte, no record and no version table, whatever they were (`unchanged`): document 01, "A refused call changes nothing",
 -- said of the plain table, is so of the store. Each call is walked through its tests once: where it refuses, it leaves the image that it found,
 -- and an image laid out in its own place changes nothing.
 -- A refused set-up keeps both buffers' bytes, and every call on what it hands back gets 2 (`set-up-refused`).
@@ -9,7 +9,7 @@ use mathlib.Core.Bool.{Bool, true, false, not}
 use mathlib.Core.List.{List, [], _∷_}
 use native.Mathlib.Omega.{arith}
 use lib.ListN.{length}
-use lib.Dec.{leb, ltb, eqb}
+use lib.Dec.{leb, eqb}
 use Rattle.spec.specs.Choice.{if_then_else_}
 use Rattle.spec.specs.Set.{clients}
 use Rattle.spec.specs.Rows.{hasTag, cells}
@@ -17,6 +17,7 @@ use Rattle.spec.specs.declared.Number.{Number}
 use Rattle.spec.specs.declared.Number.the-variants.{Some, None}
 use Rattle.spec.specs.declared.Found.{Found}
 use Rattle.spec.specs.declared.Found.the-variants.{At, Missing}
+use Rattle.spec.specs.declared.Reading.{Reading}
 use Rattle.spec.specs.declared.Progress.{Progress}
 use Rattle.spec.specs.declared.Store.{Store}
 use Rattle.spec.specs.Look.{isOwn, find}
@@ -31,7 +32,7 @@ use Rattle.spec.specs.Bytes.{decode, Memory, After, afterOf, encode, fits, onBy
 use Rattle.spec.specs.Run.{Call, Begin, Read, Write, Advance, Abandon, Trim, Free, Result, perform, step}
 use Rattle.spec.proofs.Ends.{image-stays}
 use Rattle.demands.specs.OneCall.{Unchanged, SetUpRefused}
-use Rattle.history.proofs.Wellformed.{All, each-at}
+use Rattle.history.proofs.Wellformed.{All, each-at, ReadEnds, refused, found, read-ends}
 use Rattle.history.proofs.Bridge.{refused-call}
 
 -- ---- an outcome that leaves the image i, if it refuses
@@ -58,10 +59,11 @@ begin-quiet k i =
     test i (leb clients k) (refuses i _) (test i (isOpen i k) (refuses i _) (test i (eqb (i .counters .issued) top) (refuses i _) (answers i _ _)))
 
 read-quiet : (k x : ℕ) (i : Image) → Quiet i (read k x i)
-unfolding read
-read-quiet k x i =
-    test i (leb clients k) (refuses i _) (test i (leb cells x) (refuses i _) (test i (not (isOpen i k)) (refuses i _)
-    (test i (ltb 11 (stageOf i k)) (refuses i _) (answers i _ _))))
+read-quiet k x i = go (read-ends k x i)
+  where
+    go : {o : Outcome Reading} → ReadEnds k x i o → Quiet i o
+    go (refused n) = refuses i n
+    go (found e) = answers i _ _
 
 stored-quiet : (f : Found) (k x : ℕ) (v : List ℕ) (i : Image) → Quiet i (stored f k x v i)
 unfolding replaced added
@@ -172,22 +174,23 @@ perform-quiet (Abandon k) i = abandon-quiet k i
 perform-quiet Trim i = answers i _ _
 perform-quiet Free i = answers i _ _
 
--- an outcome with the image that a record and two buffers show leaves them as they are
-pub encode-same : {A : Type 0} (s : Store) (d c : List ℕ) (o : Outcome A) → o .image ≡ decode s d c → encode s d c o ≡ afterOf s d c (o .answer)
-encode-same s d c o e = sym (image-stays s d c o (o .answer) (ap (λ (j : Image). record { image = j; answer = o .answer }) e))
+-- an outcome with the image that a record, two buffers and a version table show leaves them as they are
+pub encode-same : {A : Type 0} (s : Store) (d c v : List ℕ) (o : Outcome A) → o .image ≡ decode s d c v
+    → encode s d c o ≡ afterOf s d c v (o .answer)
+encode-same s d c v o e = sym (image-stays s d c v o (o .answer) (ap (λ (j : Image). record { image = j; answer = o .answer }) e))
 
--- a call that is refused, with whatever number, leaves the record and each byte of both buffers as they were
+-- a call that is refused, with whatever number, leaves the record, each byte of both buffers and each entry of the version table as they were
 pub unchanged : (q : Call) (m : Memory) → Unchanged q m
 unfolding onBytes encode
 unchanged q m n = go (fits (m .store) (length (m .dataBytes)) (length (m .commitBytes))) refl
   where
     i : Image
-    i = decode (m .store) (m .dataBytes) (m .commitBytes)
+    i = decode (m .store) (m .dataBytes) (m .commitBytes) (m .versions)
 
     go : (b : Bool) → fits (m .store) (length (m .dataBytes)) (length (m .commitBytes)) ≡ b → step q m .answer ≡ Refused n → step q m .memory ≡ m
     go true f e =
         rw f (ap (λ (a : After (Result q)). a .memory)
-        (encode-same (m .store) (m .dataBytes) (m .commitBytes) (perform q i) (perform-quiet q i .same n (rw f at e))))
+        (encode-same (m .store) (m .dataBytes) (m .commitBytes) (m .versions) (perform q i) (perform-quiet q i .same n (rw f at e))))
     go false f e = rw f
 
 -- ---- set-up
@@ -206,6 +209,7 @@ set-up-refused d c w l n = go (accepts (length d) (length c) w l) refl
       dataKept = refl;
       commitKept = refl;
       allZero = refl;
+      newTable = refl;
       getsTwo = λ q. ap (λ (a : After (Result q)). a .answer) (refused-call d c q);
       changesNothing = λ q. ap (λ (a : After (Result q)). a .memory) (refused-call d c q);
     })

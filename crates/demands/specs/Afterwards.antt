@@ -1,4 +1,4 @@
--- What a list of calls leaves, of the record and the buffers and of the plain table.
+-- What a list of calls leaves, of the memory and of the plain table.
 -- Assumes nothing.
 use mathlib.Core.List.{List, [], _∷_}
 use Rattle.spec.specs.Run.{Call, step}
@@ -6,7 +6,7 @@ use Rattle.spec.specs.Bytes.{Memory}
 use Rattle.spec.specs.Table.{Table, update}
 use Rattle.spec.specs.Right.{observed}
 
--- the record and the buffers
+-- the record, the buffers and the version table
 abbrev pub afterRun : List Call → Memory → Memory
 afterRun [] m = m
 afterRun (q ∷ qs) m = afterRun qs (step q m .memory)

@@ -20,6 +20,7 @@ use Rattle.spec.specs.Right.{boundsOf, valued, observed, RightRun, AllListed, A
 use Rattle.demands.specs.Afterwards.{afterRun, tableAfter}
 use Rattle.demands.specs.Listing.{ListsNameTransactions}
 use Rattle.demands.specs.Rounds.{NobodyWaits, WhoeverCalls, RoundsExist}
+use Rattle.demands.specs.Versions.{FullLooks, Entries}
 
 -- ---- the book
 
@@ -154,6 +155,10 @@ pub record Demand3 (d c : List ℕ) (w l : ℕ) (qs : List Call) : Type 0 where
   pub roundsExist : RoundsExist (setUp d c w l .memory) qs
   -- "Lists name transactions, not clients": who is on a list is in the queue, with the transaction that was listed
   pub lists : ListsNameTransactions (setUp d c w l .memory) qs
+  -- document 02, 3: "In a store grown from set-up every answer must equal that of the full look, trims between the reads included"
+  pub fullLooks : FullLooks (setUp d c w l .memory) qs
+  -- and what the version table holds: "If it finds a commit above the entry, it stores that there"
+  pub entries : Entries (setUp d c w l .memory) qs
   -- "Refusal by operation": a refused call gets one of the numbers listed for it; 11 is in no list: it "never occurs any more" (document 02, 2)
   pub listed : AllListed (setUp d c w l .memory) qs
   -- "after a refused one every call gets 2"

@@ -23,7 +23,7 @@ use Rattle.spec.specs.declared.Progress.the-variants.{Stage, Waiting, Done}
 use Rattle.spec.specs.Answers.{Answered, noClient, notOpen}
 use Rattle.spec.specs.Image.{Clients, Image, withClients, withRows, withRequested, withTaken, withLast, setRequest, setCommit}
 use Rattle.spec.specs.Image.{setRequestWaits, setCommitWaits, isOpen, stageOf, numberOf, snapshotOf, requestOf, commitNumberOf}
-use Rattle.spec.specs.Calls.{replies}
+use Rattle.spec.specs.Calls.{replies, lookOf, fullLook}
 use Rattle.spec.specs.Numbers.{top}
 use Rattle.spec.specs.Steps as st
 use Rattle.spec.specs.Steps.{requestQueue, commitQueue, struck, others, steps, noStep}
@@ -41,7 +41,8 @@ use Rattle.history.proofs.Listings.{count-view, size-none, size-zero, p
 use Rattle.history.proofs.Simulates.{observedOutcome, Simulates, simulates, simulates-if, not-open, open-number}
 use Rattle.history.proofs.Simple.{number-of, removed-view}
 
--- what the calls ask of the image: numbers of 32 bits, cells that there are, a number to be taken, and a free committed row
+-- what the calls ask of the image: numbers of 32 bits, cells that there are, a number to be taken, a free committed row, and that a look by the
+-- version table is as good as the full one
 pub record Ready (i : Image) : Type 0 where
   pub fine : Wellformed i
   pub numbers : (k : ℕ) → numberOf i k < 4294967296
@@ -50,6 +51,7 @@ pub record Ready (i : Image) : Type 0 where
   pub request : (k : ℕ) → k < clients → 1 ≤ view i .cl k .number → stageOf i k ≡ 1 → i .counters .requested < top
   pub commit : (k : ℕ) → k < clients → 1 ≤ view i .cl k .number → stageOf i k ≡ 7 → i .counters .taken < top
   pub room : (k : ℕ) → 1 ≤ view i .cl k .number → stageOf i k ≡ 11 → length (i .commitRows) < i .rows
+  pub looks : (k x : ℕ) → isOpen i k ≡ true → lookOf k x i ≡ fullLook k x i
 
 -- no other stage is at most 13
 next : (n g : ℕ) → n ≤ g → g ≢ n → n + 1 ≤ g

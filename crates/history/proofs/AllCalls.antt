@@ -1,8 +1,8 @@
 -- Document 01's promises on every list of calls, for every set-up.
--- Demand 3: between two calls the image is well-formed, its view and the plain table satisfy the invariant, and there is room for the numbers
--- and rows to come (`Reached`). A call on such an image does one of the things of Transition.antt, so its answer is right and what it leaves is such an
--- image again; on the record and the buffers the call does the same (`crossed`). After a refused set-up no client is open, and the refusal 2
--- is right of a closed client.
+-- Demand 3: between two calls the image is well-formed, its view and the plain table satisfy the invariant, there is room for the numbers and rows
+-- to come, and the version table's entries are known by the book (`Reached`). A call on such an image does one of the things of Transition.antt, so
+-- its answer is right and what it leaves is such an image again; on the memory the call does the same (`crossed`). After a refused set-up no client
+-- is open, and the refusal 2 is right of a closed client.
 -- Assumes nothing.
 use Prim.Native.Nat.{ℕ, suc, _-_, _/_, _≤_, _<_}
 use mathlib.Core.Path.{_≡_, refl, sym, ap, _∙_, subst}
@@ -37,6 +37,7 @@ use Rattle.history.proofs.Meets.{Under-state, under-kept, R-left, C-lef
 use Rattle.history.proofs.Room.{Room-state, room-stays, room-left, start-room}
 use Rattle.history.proofs.View.{view, number-at, stage-at, commit-at, W-at, R-at, C-at, used-at, entries-at, free-at}
 use Rattle.history.proofs.Simulates.{observedOutcome}
+use Rattle.history.proofs.Versions.{Known, start-known, full-look, entries-known}
 use Rattle.history.proofs.Advancing.{Ready}
 use Rattle.history.proofs.Walk.{perform-simulates, empty-view}
 use Rattle.history.proofs.Erase.{erase, erase-empty, feeds, right}
@@ -49,6 +50,7 @@ pub record Reached (bounds : Bounds) (w : ℕ) (i : Image) (p : Plain) : Type 0 
   pub under : Under-state (view i)
   pub room : Room-state (view i)
   pub numbers : Numbered w (view i .W)
+  pub known : Known (i .versions) (p .book)
 
 module _ {bounds : Bounds} {w : ℕ} {i : Image} {p : Plain} (g : Reached bounds w i p) where
   within : view i .W ≤ top
@@ -76,6 +78,7 @@ module _ {bounds : Bounds} {w : ℕ} {i : Image} {p : Plain} (g : Reached bounds
     request = λ k h o e. omega (arith, R-left (view i) (g .under) k h o (omega (arith, e, stage-at i k)), within, R-at i);
     commit = λ k h o e. omega (arith, C-left (view i) (g .under) k h o (omega (arith, e, stage-at i k)), within, C-at i);
     room = λ k o e. omega (arith, room-left (g .inv) (g .room) k o (stage-at i k ∙ e), used-at i, entries-at i, g .fine .dataFit);
+    looks = full-look i (g .inv) (g .known);
   }
 
 -- ---- one call
@@ -95,6 +98,7 @@ module _ {bounds : Bounds} {w : ℕ} {i : Image} {p : Plain} (g : Reached bounds
     under = under-kept (view i) (g .under) transition-of;
     room = room-stays (g .inv) (g .room) transition-of;
     numbers = numbered-on (g .numbers) transition-of;
+    known = entries-known i (g .inv) (g .known) (perform-kept q i (g .fine)) q (observed-by q i);
   }
 
   right-own : own.Rightₚ bounds (view i .W) p q (observed-by q i) (m.freeₛ (view (perform q i .image)))
@@ -161,6 +165,7 @@ start-good n l w h g k =
       under = subst Under-state (sym (empty-view n l w)) (start-under b w);
       room = subst Room-state (sym (empty-view n l w)) (start-room b w);
       numbers = subst (λ (s : State). Numbered (suc w) (s .W)) (sym (empty-view n l w)) (start-numbers b w k);
+      known = start-known n l w;
     }
 
 -- ---- a refused set-up

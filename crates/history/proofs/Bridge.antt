@@ -1,7 +1,7 @@
--- From images to the record and the bytes of both buffers. A well-formed image i has one layout, `encoded i`: its record, and each buffer with
--- its rows and then zero. A call on that layout is the call on the image: the store is fit, the image is read back, and what the call leaves is
--- laid out as the layout of the image it leaves (`crossed`, for a call of any kind that keeps images well-formed). A set-up that is not refused
--- hands back the layout of the empty image. After a refused one the record has 0 rows, so that the store is unfit.
+-- From images to the record, the bytes of both buffers and the version table. A well-formed image i has one layout, `encoded i`: its record, each
+-- buffer with its rows and then zero, and its table. A call on that layout is the call on the image: the store is fit, the image is read back, and
+-- what the call leaves is laid out as the layout of the image it leaves (`crossed`, for a call of any kind that keeps images well-formed). A set-up
+-- that is not refused hands back the layout of the empty image. After a refused one the record has 0 rows, so that the store is unfit.
 -- Assumes nothing.
 use Prim.Native.Nat.{ℕ, _-_, _/_, _≤_}
 use mathlib.Core.Path.{_≡_, refl}
@@ -11,9 +11,9 @@ use native.Mathlib.Nat.{sub-zero}
 use lib.ListN.{length}
 use Rattle.spec.specs.Rows.{rowsIn}
 use Rattle.spec.specs.Answers.{Answer, Refused, unfit}
-use Rattle.spec.specs.Image.{Image, empty}
+use Rattle.spec.specs.Image.{Image, noVersions, empty}
 use Rattle.spec.specs.Calls.{Outcome}
-use Rattle.spec.specs.Bytes.{After, afterOf, decode, storeOf, encode, fits, onBytes, limitOf, accepts, setUp, Memory}
+use Rattle.spec.specs.Bytes.{After, afterOf, memoryOf, decode, storeOf, encode, fits, onBytes, onMemory, limitOf, accepts, setUp, Memory}
 use Rattle.spec.specs.Run.{Call, perform, step}
 use Rattle.spec.proofs.Ends.{accepted}
 use Rattle.spec.proofs.AccordUnfit.{fit-if}
@@ -22,11 +22,11 @@ use Rattle.history.proofs.Wellformed.{Wellformed, Kept, perform-kept, e
 
 -- the layout of an image
 unfoldable pub encoded : Image → Memory
-encoded i = record { store = storeOf i; dataBytes = spread 24 (i .rows) (i .dataRows); commitBytes = spread 8 (i .rows) (i .commitRows) }
+encoded i = memoryOf (storeOf i) (spread 24 (i .rows) (i .dataRows)) (spread 8 (i .rows) (i .commitRows)) (i .versions)
 
 -- a layout and an answer
 abbrev with : {A : Type 0} → Memory → Answer A → After A
-with m a = afterOf (m .store) (m .dataBytes) (m .commitBytes) a
+with m a = afterOf (m .store) (m .dataBytes) (m .commitBytes) (m .versions) a
 
 -- ---- one call, of any kind that keeps images well-formed
 
@@ -47,7 +47,7 @@ module _ (i : Image) (h : Wellformed i) where
       (λ k q. h .tidy .stage .each k)
 
   -- and shows that image
-  decode-encoded : decode (encoded i .store) (encoded i .dataBytes) (encoded i .commitBytes) ≡ i
+  pub decode-encoded : decode (encoded i .store) (encoded i .dataBytes) (encoded i .commitBytes) (encoded i .versions) ≡ i
   unfolding decode encoded storeOf
   decode-encoded = rw (rows-spread 24 (i .rows) (i .dataRows) (h .dataWide), rows-spread 8 (i .rows) (i .commitRows) (h .commitWide))
 
@@ -65,7 +65,7 @@ module _ (i : Image) (h : Wellformed i) where
       )
 
   bridge-call : {A : Type 0} (f : Image → Outcome A) → Kept i (f i)
-      → onBytes f (encoded i .store) (encoded i .dataBytes) (encoded i .commitBytes) ≡ with (encoded (f i .image)) (f i .answer)
+      → onMemory f (encoded i) ≡ with (encoded (f i .image)) (f i .answer)
   unfolding onBytes
   bridge-call f k = rw (fits-whole, decode-encoded) (encode-encoded (f i) k)
 
@@ -96,7 +96,7 @@ module _ (d c : List ℕ) (w l : ℕ) (e : accepts (length d) (length c) w l ≡
 
 -- what a refused set-up hands back
 abbrev pub unused : List ℕ → List ℕ → Memory
-unused d c = record { store = storeOf (empty 0 0 0); dataBytes = d; commitBytes = c }
+unused d c = memoryOf (storeOf (empty 0 0 0)) d c noVersions
 
 pub refused-memory : (d c : List ℕ) (w l : ℕ) → accepts (length d) (length c) w l ≡ false → setUp d c w l .memory ≡ unused d c
 unfolding setUp

@@ -140,7 +140,7 @@ take-aged n (e ∷ l) =
     (λ h. take-all n (aged l ++ (commitEntry e ∷ [])) (omega (arith, h, length-append (aged l) (commitEntry e ∷ []), length-aged l))
     ∙ ap aged (sym (if-neg (decLe n (length l)) h (olderₚ n l) (e ∷ l))))
 
-aged-in : (e : Entry) (l : List Entry) → In e l → In (commitEntry e) (aged l)
+pub aged-in : (e : Entry) (l : List Entry) → In e l → In (commitEntry e) (aged l)
 unfolding aged
 aged-in e [] i = absurd (in-nil i)
 aged-in e (d ∷ l) i = in-case i (λ q. in-right (aged l) (here (ap commitEntry q))) (λ j. in-left (commitEntry d ∷ []) (aged-in e l j))

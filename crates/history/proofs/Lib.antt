@@ -29,6 +29,7 @@ pub mod Tables
 pub mod Tickets
 pub mod Transition
 pub mod Trimming
+pub mod Versions
 pub mod View
 pub mod Walk
 pub mod Wellformed

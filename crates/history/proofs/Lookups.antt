@@ -33,13 +33,14 @@ sift-is : {P : ℕ → Type 0} (d : (n : ℕ) → Dec (P n)) (o : Option ℕ) (n
 unfolding sift
 sift-is d o n e p = rw e (if-pos (d n) p _ _)
 
-read-some : (comm : List CRow) (x S : ℕ) (r : DRow) (n : ℕ) → readKey comm x S r ≡ some n → (r .cell ≡ x) × (numOf (r .tag) comm ≡ some n) × (n ≤ S)
+pub read-some : (comm : List CRow) (x S : ℕ) (r : DRow) (n : ℕ) → readKey comm x S r ≡ some n
+    → (r .cell ≡ x) × (numOf (r .tag) comm ≡ some n) × (n ≤ S)
 unfolding readKey
 read-some comm x S r n =
     ite-elim (λ o. o ≡ some n → (r .cell ≡ x) × (numOf (r .tag) comm ≡ some n) × (n ≤ S)) (ℕ-discrete (r .cell) x)
     (λ e q. let h = sift-some (λ n. decLe n S) (numOf (r .tag) comm) n q in (e, h .0, h .1)) (λ _ q. absurd (none-some refl q))
 
-read-is : (comm : List CRow) (x S : ℕ) (r : DRow) (n : ℕ) → r .cell ≡ x → numOf (r .tag) comm ≡ some n → n ≤ S → readKey comm x S r ≡ some n
+pub read-is : (comm : List CRow) (x S : ℕ) (r : DRow) (n : ℕ) → r .cell ≡ x → numOf (r .tag) comm ≡ some n → n ≤ S → readKey comm x S r ≡ some n
 unfolding readKey
 read-is comm x S r n e f h = if-pos (ℕ-discrete (r .cell) x) e _ _ ∙ sift-is (λ n. decLe n S) (numOf (r .tag) comm) n f h
 
@@ -55,7 +56,8 @@ check-is : (d : List DRow) (comm : List CRow) (u S : ℕ) (r : DRow) (n : ℕ) �
 unfolding checkKey
 check-is d comm u S r n e f h = if-pos (some? (findₛ u (r .cell) d)) e _ _ ∙ sift-is (λ n. decLt S n) (numOf (r .tag) comm) n f h
 
-largest-some : (k : DRow → Option ℕ) (l : List DRow) (w : ℕ × DRow) → largest k l ≡ some w → Best (λ n m. n < m) (λ n m. decLt n m) k l (w .0) (w .1)
+pub largest-some : (k : DRow → Option ℕ) (l : List DRow) (w : ℕ × DRow) → largest k l ≡ some w
+    → Best (λ n m. n < m) (λ n m. decLt n m) k l (w .0) (w .1)
 unfolding largest
 largest-some k l w e = best-some (λ n m. n < m) (λ n m. decLt n m) (λ n m j p q r. omega arith) (λ n m p q. omega arith) k l w e
 
@@ -67,7 +69,7 @@ smallest-some k l w e = best-some (λ n m. m < n) (λ n m. decLt m n) (λ n m j 
 module _ {dat : List DRow} {comm : List CRow} {last W : ℕ} {table : ℕ → Option Value} {book : List Entry} {v : ℕ → Reader}
     (t : Tab dat comm last W table book v) (a : ℕ) (isopen : 1 ≤ v a .num) where
   -- The commit that the plain table shows to client a has its row.
-  shown : (x : ℕ) (w : Value) (e : Top (v a .snap) book x w) → RowOf dat comm (e .entry .number) x
+  pub shown : (x : ℕ) (w : Value) (e : Top (v a .snap) book x w) → RowOf dat comm (e .entry .number) x
   shown x w e = ⊎-elim (λ k. k)
       (λ d. absurd (omega (arith, d .2, e .last (d .0) (d .1) (d .5 a isopen) (d .3))))
       (t .kept (e .entry) x (e .within) (rw (e .puts) tt))

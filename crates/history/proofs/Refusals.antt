@@ -72,8 +72,8 @@ begin-listed k i =
 read-listed : (k x : ℕ) (i : Image) → Lists (refusals (Read k x)) (read k x i)
 unfolding read
 read-listed k x i =
-    test (leb clients k) (refuses 3 i refl) (test (leb cells x) (refuses 4 i refl) (test (not (isOpen i k)) (refuses 6 i refl)
-    (test (ltb 11 (stageOf i k)) (refuses 7 i refl) (answers _ _))))
+    test (not (eqb (length (i .versions)) cells)) (refuses 2 i refl) (test (leb clients k) (refuses 3 i refl) (test (leb cells x) (refuses 4 i refl)
+    (test (not (isOpen i k)) (refuses 6 i refl) (test (ltb 11 (stageOf i k)) (refuses 7 i refl) (answers _ _)))))
 
 stored-listed : (f : Found) (k x : ℕ) (v : List ℕ) (i : Image) → Lists (refusals (Write k x v)) (stored f k x v i)
 unfolding replaced added
@@ -223,7 +223,7 @@ refused-by-number : (q : Call) (m : Memory) → Listed (refusals q) (step q m .a
 unfolding onBytes encode
 refused-by-number q m =
     listed-if (refusals q) (fits (m .store) (length (m .dataBytes)) (length (m .commitBytes))) _ _
-    (perform-listed q (decode (m .store) (m .dataBytes) (m .commitBytes)) .listed) (unfit-listed q)
+    (perform-listed q (decode (m .store) (m .dataBytes) (m .commitBytes) (m .versions)) .listed) (unfit-listed q)
 
 pub all-listed : (qs : List Call) (m : Memory) → AllListed m qs
 all-listed [] m = tt

@@ -3,13 +3,13 @@
 -- Assumes nothing.
 use Prim.Native.Nat.{ℕ, _+_, _≤_, _<_}
 use mathlib.Core.Path.{_≡_, refl, ap, _∙_}
-use mathlib.Core.Bool.{not}
+use mathlib.Core.Bool.{true, not}
 use mathlib.Core.List.{List, map}
 use mathlib.Core.Option.{Option}
 use native.Mathlib.Numerals.{add-one}
 use native.Mathlib.Omega.{arith}
-use borrow.Author.Tests.{ltb-true, ltb-false, leb-true, leb-false, eqb-true, eqb-false}
-use lib.ListN.{getD}
+use borrow.Author.Tests.{ltb-true, ltb-false, leb-true, leb-false, eqb-true, eqb-false, eq-eqb, not-false}
+use lib.ListN.{length, getD}
 use lib.Dec.{ltb, leb, eqb}
 use Rattle.spec.specs.Set.{clients}
 use Rattle.spec.specs.Rows.{Row, cells}
@@ -19,8 +19,8 @@ use Rattle.spec.specs.declared.Lookup.{Lookup}
 use Rattle.spec.specs.declared.Lookup.the-variants.{Version, Nothing}
 use Rattle.spec.specs.Look.{isOwn, find, versionOf, newest, ownOr, lookFor}
 use Rattle.spec.specs.Answers.{Answered, noClient, noCell, alreadyOpen, notOpen, wrongStage, numbersUsedUp}
-use Rattle.spec.specs.Image.{Clients, Image, isOpen, stageOf, numberOf, snapshotOf}
-use Rattle.spec.specs.Calls.{begun, begin, reading, read, removed, abandon, free}
+use Rattle.spec.specs.Image.{Clients, Image, withVersions, isOpen, stageOf, numberOf, snapshotOf}
+use Rattle.spec.specs.Calls.{begun, begin, reading, lookOf, fullLook, repliesFound, read, removed, abandon, free}
 use Rattle.spec.specs.Numbers.{top}
 use Rattle.spec.specs.Run.{Begin, Read, Abandon, Free}
 use Rattle.spec.specs.Table.{Value, orElse, bytesRead}
@@ -78,15 +78,21 @@ found-view : (t x b : ℕ) (cs ds : List Row)
 unfolding lookFor
 found-view t x b cs ds = rw (own-view t x ds, ← newest-view x b cs ds) (chosen ds (find (isOwn t x) 0 ds) (newest (versionOf x b cs) 0 ds))
 
-lookup-view : (i : Image) (k x : ℕ)
-    → bytesRead (i .dataRows) (reading (lookFor (numberOf i k) x (snapshotOf i k) (i .dataRows) (i .commitRows))) ≡ lookup (view i) k x
+lookup-view : (i : Image) (k x : ℕ) → bytesRead (i .dataRows) (reading (fullLook k x i)) ≡ lookup (view i) k x
 unfolding lookup committedAt view clientsAs clientOf
 lookup-view i k x = found-view (numberOf i k) x (snapshotOf i k) (i .commitRows) (i .dataRows)
 
-pub read-simulates : (i : Image) (k x : ℕ) → Wellformed i → Simulates i (Read k x) (read k x i)
+-- the view does not see the version table
+versions-view : (i : Image) (v : List ℕ) → view (withVersions i v) ≡ view i
+unfolding view
+versions-view i v = refl
+
+-- where the look by the entry finds what the full look finds (Versions.antt has that it does)
+pub read-simulates : (i : Image) (k x : ℕ) → Wellformed i → (isOpen i k ≡ true → lookOf k x i ≡ fullLook k x i)
+    → Simulates i (Read k x) (read k x i)
 unfolding read
-read-simulates i k x z =
-    simulates-if i (Read k x) (leb clients k)
+read-simulates i k x z full =
+    rw (eq-eqb (length (i .versions)) cells (z .table)) (simulates-if i (Read k x) (leb clients k)
     (λ h. record {
       did = no-read k x noClient (omega arith) (λ o. absurd
           (omega (arith, o, past-number i (z .tidy) k (leb-true clients k h))));
@@ -101,8 +107,9 @@ read-simulates i k x z =
       did = no-read k x wrongStage (omega arith) (λ _. for-late (leb-false cells x g)
           (omega (arith, ltb-true 11 (stageOf i k) l, stage-at i k)));
     }) (λ l.
-    simulates i (Read k x) _ (ap (λ (v : Option Value). out (view i) (Answered v)) (lookup-view i k x))
-    (reads k x (leb-false cells x g) (open-number i k o) (omega (arith, ltb-false 11 (stageOf i k) l, stage-at i k)))))))
+    simulates i (Read k x) (repliesFound x (lookOf k x i) i)
+    (rw (full (not-false (isOpen i k) o), versions-view i) (ap (λ (v : Option Value). out (view i) (Answered v)) (lookup-view i k x)))
+    (reads k x (leb-false cells x g) (open-number i k o) (omega (arith, ltb-false 11 (stageOf i k) l, stage-at i k))))))))
 
 -- ---- Abandon
 

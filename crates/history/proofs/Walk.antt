@@ -17,7 +17,7 @@ use Rattle.history.proofs.Advancing.{Ready, advance-simulates}
 
 pub perform-simulates : (q : Call) (i : Image) → Ready i → i .counters .issued ≤ top → Simulates i q (perform q i)
 perform-simulates (Begin k) i h w = begin-simulates i k (h .fine) w
-perform-simulates (Read k x) i h w = read-simulates i k x (h .fine)
+perform-simulates (Read k x) i h w = read-simulates i k x (h .fine) (h .looks k x)
 perform-simulates (Write k x v) i h w = write-simulates i k x v (h .fine) (h .numbers k) (h .inside)
 perform-simulates (Advance k) i h w = advance-simulates i k h
 perform-simulates (Abandon k) i h w = abandon-simulates i k (h .fine)

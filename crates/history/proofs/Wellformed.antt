@@ -1,16 +1,18 @@
 -- Well-formed images, and that every call leads from a well-formed image to a well-formed image of as many rows.
 -- An image is well-formed if it has 1 to 1,024 rows and no row count above that, its rows have their full width, each array has an entry for
--- each client, stages are known, and waiting lists are sets of clients. The argument is one walk over the calls: each way a call may end is one of
--- a few changes, and each change keeps each of these facts; tests matter in two places only (a value of 16 bytes, a free row).
+-- each client and the version table one for each cell, stages are known, and waiting lists are sets of clients. The argument is one walk over the
+-- calls: each way a call may end is one of a few changes, and each change keeps each of these facts; tests matter in three places only (a value of
+-- 16 bytes, a free row, an open client). The walk also says what becomes of the version table: only a Read changes it (`Kept .versions`).
 -- Assumes nothing.
 use Prim.Native.Nat.{ℕ, zero, suc, _+_, _^_, _≤_, _<_}
 use mathlib.Core.Path.{_≡_, refl, sym, ap, _∙_}
+use mathlib.Core.Logic.{_⊎_, inl, inr}
 use mathlib.Core.Bool.{Bool, true, false, not, _&&_}
 use mathlib.Core.List.{List, [], _∷_, _++_, map}
 use native.Mathlib.Omega.{arith}
 use borrow.Author.Tests.{leb-false, eqb-true, not-false}
 use lib.Dec.{eqb, leb, ltb}
-use lib.ListN.{length, getD, set, replicate, length-append, length-set, length-map, List·getD-map}
+use lib.ListN.{length, getD, set, replicate, length-append, length-set, length-map, length-replicate, List·getD-map}
 use Rattle.spec.specs.Choice.{if_then_else_}
 use Rattle.spec.specs.Set.{clients, member, remove, strike}
 use Rattle.spec.proofs.Sets.{member-above, remove-le, collect-lt}
@@ -21,14 +23,18 @@ use Rattle.spec.specs.declared.Number.{Number}
 use Rattle.spec.specs.declared.Number.the-variants.{Some, None}
 use Rattle.spec.specs.declared.Found.{Found}
 use Rattle.spec.specs.declared.Found.the-variants.{At, Missing}
-use Rattle.spec.specs.Look.{isOwn, find}
+use Rattle.spec.specs.declared.Lookup.{Lookup}
+use Rattle.spec.specs.declared.Lookup.the-variants.{Version, Nothing}
+use Rattle.spec.specs.declared.Reading.{Reading}
+use Rattle.spec.specs.Look.{isOwn, find, versionsAfter}
 use Rattle.spec.specs.Share.{any, cellsOf, shares, conflict}
 use Rattle.spec.specs.Trim.{stays, trimmedRows, inUse, trimmedCommits}
 use Rattle.spec.specs.declared.Progress.{Progress}
-use Rattle.spec.specs.Answers.{Answer}
+use Rattle.spec.specs.Answers.{Answer, unfit, noClient, noCell, notOpen, wrongStage}
 use Rattle.spec.specs.Image.{Clients, Image, setStage, setRequest, setCommit, setRequestWaits, setCommitWaits, cleared, unlisted, opened}
-use Rattle.spec.specs.Image.{closed, zeros, empty, numberOf, snapshotOf, requestOf, stageOf, commitNumberOf, isOpen}
-use Rattle.spec.specs.Calls.{Outcome, free, begun, begin, read, replaced, added, stored, write, removed, abandon, low, trimmedTo, trim}
+use Rattle.spec.specs.Image.{closed, zeros, noVersions, empty, numberOf, snapshotOf, requestOf, stageOf, commitNumberOf, isOpen}
+use Rattle.spec.specs.Calls.{Outcome, refuse, free, begun, begin, lookOf, repliesFound, read, replaced, added, stored, write, removed, abandon}
+use Rattle.spec.specs.Calls.{low, trimmedTo, trim}
 use Rattle.spec.specs.Numbers.{top}
 use Rattle.spec.specs.Steps.{requestQueue, commitQueue, struck, others, goOn, finished, enter, takeRequest, listRequests, looked}
 use Rattle.spec.specs.Steps.{lookRequests, checked, check, takeCommit, listCommits, lookCommits, addCommit, leaveCommits, leaveRequests}
@@ -42,15 +48,16 @@ pub record Array (P : ℕ → Type 0) (l : List ℕ) : Type 0 where
   pub size : length l ≡ clients
   pub each : (j : ℕ) → P (getD l j 0)
 
-each-set : (P : ℕ → Type 0) (l : List ℕ) (k v : ℕ) → P v → ((j : ℕ) → P (getD l j 0)) → (j : ℕ) → P (getD (set l k v) j 0)
+-- P of each place and its entry
+pub each-set : (P : ℕ → ℕ → Type 0) (l : List ℕ) (k v : ℕ) → P k v → ((j : ℕ) → P j (getD l j 0)) → (j : ℕ) → P j (getD (set l k v) j 0)
 each-set P [] k v h all j = all j
 each-set P (x ∷ l) zero v h all zero = h
 each-set P (x ∷ l) zero v h all (suc j) = all (suc j)
 each-set P (x ∷ l) (suc k) v h all zero = all zero
-each-set P (x ∷ l) (suc k) v h all (suc j) = each-set P l k v h (λ n. all (suc n)) j
+each-set P (x ∷ l) (suc k) v h all (suc j) = each-set (λ n. P (suc n)) l k v h (λ n. all (suc n)) j
 
 array-set : {P : ℕ → Type 0} {l : List ℕ} → Array P l → (k v : ℕ) → P v → Array P (set l k v)
-array-set {P} {l} a k v h = record { size = length-set l k v ∙ a .size; each = each-set P l k v h (a .each) }
+array-set {P} {l} a k v h = record { size = length-set l k v ∙ a .size; each = each-set (λ j. P) l k v h (a .each) }
 
 -- a number of any size, a known stage, a set of clients
 abbrev Any : ℕ → Type 0
@@ -191,7 +198,7 @@ module _ {c : Clients} (z : Tidy c) (k : ℕ) where
 
 -- ---- images
 
-pub record Fine (n : ℕ) (c : Clients) (d m : List Row) : Type 0 where
+pub record Fine (n : ℕ) (c : Clients) (d m : List Row) (v : List ℕ) : Type 0 where
   pub some : 1 ≤ n
   pub most : n ≤ 1024
   pub tidy : Tidy c
@@ -199,20 +206,30 @@ pub record Fine (n : ℕ) (c : Clients) (d m : List Row) : Type 0 where
   pub commitWide : Wide 8 m
   pub dataFit : length d ≤ n
   pub commitFit : length m ≤ n
+  pub table : length v ≡ cells
 
 abbrev pub Wellformed : Image → Type 0
-Wellformed i = Fine (i .rows) (i .clients) (i .dataRows) (i .commitRows)
+Wellformed i = Fine (i .rows) (i .clients) (i .dataRows) (i .commitRows) (i .versions)
 
--- what a call leaves is well-formed, and of as many rows
+-- a version table in which what an open client has found is noted
+abbrev pub EntryNoted : Image → List ℕ → Type 0
+EntryNoted i v = (k : ℕ) × (x : ℕ) × (isOpen i k ≡ true) × (v ≡ versionsAfter x (lookOf k x i) (i .versions))
+
+-- what a call leaves is well-formed and of as many rows, with the version table as it was, or so noted
 pub record Kept {A : Type 0} (i : Image) (o : Outcome A) : Type 0 where
   pub fine : Wellformed (o .image)
   pub size : o .image .rows ≡ i .rows
+  pub versions : (o .image .versions ≡ i .versions) ⊎ EntryNoted i (o .image .versions)
 
-kept : {A : Type 0} {i : Image} {o : Outcome A} → Wellformed (o .image) → o .image .rows ≡ i .rows → Kept i o
-kept s e = record { fine = s; size = e }
+-- what no call changes but a Read
+abbrev fixed : Image → ℕ × List ℕ
+fixed i = (i .rows, i .versions)
 
-module _ {n : ℕ} {c : Clients} {d m : List Row} (h : Fine n c d m) where
-  fine-clients : (b : Clients) → Tidy b → Fine n b d m
+kept : {A : Type 0} {i : Image} {o : Outcome A} → Wellformed (o .image) → fixed (o .image) ≡ fixed i → Kept i o
+kept s e = record { fine = s; size = ap (λ (f : ℕ × List ℕ). f .0) e; versions = inl (ap (λ (f : ℕ × List ℕ). f .1) e) }
+
+module _ {n : ℕ} {c : Clients} {d m : List Row} {v : List ℕ} (h : Fine n c d m v) where
+  fine-clients : (b : Clients) → Tidy b → Fine n b d m v
   fine-clients b t = record {
     some = h .some;
     most = h .most;
@@ -221,9 +238,10 @@ module _ {n : ℕ} {c : Clients} {d m : List Row} (h : Fine n c d m) where
     commitWide = h .commitWide;
     dataFit = h .dataFit;
     commitFit = h .commitFit;
+    table = h .table;
   }
 
-  fine-data : (e : List Row) → Wide 24 e → length e ≤ n → Fine n c e m
+  fine-data : (e : List Row) → Wide 24 e → length e ≤ n → Fine n c e m v
   fine-data e x l = record {
     some = h .some;
     most = h .most;
@@ -232,9 +250,10 @@ module _ {n : ℕ} {c : Clients} {d m : List Row} (h : Fine n c d m) where
     commitWide = h .commitWide;
     dataFit = l;
     commitFit = h .commitFit;
+    table = h .table;
   }
 
-  fine-commits : (e : List Row) → Wide 8 e → length e ≤ n → Fine n c d e
+  fine-commits : (e : List Row) → Wide 8 e → length e ≤ n → Fine n c d e v
   fine-commits e x l = record {
     some = h .some;
     most = h .most;
@@ -243,6 +262,19 @@ module _ {n : ℕ} {c : Clients} {d m : List Row} (h : Fine n c d m) where
     commitWide = x;
     dataFit = h .dataFit;
     commitFit = l;
+    table = h .table;
+  }
+
+  fine-versions : (e : List ℕ) → length e ≡ length v → Fine n c d m e
+  fine-versions e l = record {
+    some = h .some;
+    most = h .most;
+    tidy = h .tidy;
+    dataWide = h .dataWide;
+    commitWide = h .commitWide;
+    dataFit = h .dataFit;
+    commitFit = h .commitFit;
+    table = l ∙ h .table;
   }
 
 -- ---- tests
@@ -265,6 +297,33 @@ wide-value [] j v g h = h
 wide-value (x ∷ rs) zero v g h = (length-spliced 8 v x (8 + length v) refl (omega (arith, h .0)) ∙ h .0, h .1)
 wide-value (x ∷ rs) (suc j) v g h = (h .0, wide-value rs j v g (h .1))
 
+-- ---- a Read
+
+-- how a Read ends: it is refused, or its client is open, and it answers and notes what it has found
+pub data ReadEnds (k x : ℕ) (i : Image) : Outcome Reading → Type 0 where
+  refused : (n : ℕ) → ReadEnds k x i (refuse n i)
+  found : isOpen i k ≡ true → ReadEnds k x i (repliesFound x (lookOf k x i) i)
+
+ends-if : {k x : ℕ} {i : Image} (b : Bool) (n : ℕ) {o : Outcome Reading} → (b ≡ false → ReadEnds k x i o)
+    → ReadEnds k x i (if b then refuse n i else o)
+ends-if true n f = refused n
+ends-if false n f = f refl
+
+pub read-ends : (k x : ℕ) (i : Image) → ReadEnds k x i (read k x i)
+unfolding read
+read-ends k x i =
+    ends-if (not (eqb (length (i .versions)) cells)) unfit (λ _. ends-if (leb clients k) noClient (λ _. ends-if (leb cells x) noCell (λ _.
+    ends-if (not (isOpen i k)) notOpen (λ o. ends-if (ltb 11 (stageOf i k)) wrongStage (λ _. found (not-false (isOpen i k) o))))))
+
+length-after : (x : ℕ) (l : Lookup) (v : List ℕ) → length (versionsAfter x l v) ≡ length v
+unfolding versionsAfter
+length-after x Nothing v = refl
+length-after x (Version j n) v = go (ltb (getD v x 0) n)
+  where
+    go : (b : Bool) → length (if b then set v x n else v) ≡ length v
+    go true = length-set v x n
+    go false = refl
+
 -- ---- the calls
 
 module _ (i : Image) (h : Wellformed i) where
@@ -278,10 +337,15 @@ module _ (i : Image) (h : Wellformed i) where
       (kept (fine-clients h _ (tidy-opened (h .tidy) k _ _)) refl)))
 
   read-kept : (k x : ℕ) → Kept i (read k x i)
-  unfolding read
-  read-kept k x =
-      kept-if (leb clients k) (same _) (kept-if (leb cells x) (same _)
-      (kept-if (not (isOpen i k)) (same _) (kept-if (ltb 11 (stageOf i k)) (same _) (same _))))
+  read-kept k x = go (read-ends k x i)
+    where
+      go : {o : Outcome Reading} → ReadEnds k x i o → Kept i o
+      go (refused n) = same _
+      go (found e) = record {
+        fine = fine-versions h _ (length-after x (lookOf k x i) (i .versions));
+        size = refl;
+        versions = inr (k, x, e, refl);
+      }
 
   added-kept : (k x : ℕ) (v : List ℕ) → length v ≡ 16 → Kept i (added k x v i)
   unfolding added
@@ -314,14 +378,14 @@ module _ (i : Image) (h : Wellformed i) where
       (omega (arith, filter-fewer p (i .dataRows), h .dataFit)))
       _ (tidy-closed (h .tidy) k)
 
-  removed-rows : (k : ℕ) → removed k i .rows ≡ i .rows
+  removed-fixed : (k : ℕ) → fixed (removed k i) ≡ fixed i
   unfolding removed
-  removed-rows k = refl
+  removed-fixed k = refl
 
   abandon-kept : (k : ℕ) → Kept i (abandon k i)
   unfolding abandon
   abandon-kept k = kept-if (leb clients k) (same _) (kept-if (not (isOpen i k)) (same _)
-      (kept-if (leb 12 (stageOf i k)) (same _) (kept (removed-kept k) (removed-rows k))))
+      (kept-if (leb 12 (stageOf i k)) (same _) (kept (removed-kept k) (removed-fixed k))))
 
   free-kept : Kept i (free i)
   unfolding free
@@ -367,7 +431,7 @@ takeRequest-kept k i h =
     (fine-clients h _ (tidy-stage (tidy-request (h .tidy) k _) k 2 (omega arith))) refl)
 
 -- after a look
-looked-kept : (g : ℕ) → g ≤ 13 → (k w : ℕ) (i j : Image) → Wellformed j → j .rows ≡ i .rows → Kept i (looked g k w j)
+looked-kept : (g : ℕ) → g ≤ 13 → (k w : ℕ) (i j : Image) → Wellformed j → fixed j ≡ fixed i → Kept i (looked g k w j)
 unfolding looked goOn
 looked-kept g l k w i j h e = kept-if (eqb w 0) (kept (fine-clients h _ (tidy-stage (h .tidy) k g l)) e) (kept h e)
 
@@ -387,7 +451,7 @@ lookRequests-kept k i h =
 
 checked-kept : (c : Number) → Keeps (checked c)
 checked-kept None k i h = goOn-kept 6 (omega arith) k i h
-checked-kept (Some n) k i h = kept (removed-kept i h k) (removed-rows i h k)
+checked-kept (Some n) k i h = kept (removed-kept i h k) (removed-fixed i h k)
 
 check-kept : Keeps check
 unfolding check
@@ -481,6 +545,10 @@ zero-at (suc n) (suc j) = zero-at n j
 array-zeros : (P : ℕ → Type 0) → P 0 → Array P zeros
 array-zeros P h = record { size = refl; each = λ j. rw (zero-at clients j) h }
 
+pub length-none : length noVersions ≡ cells
+unfolding noVersions
+length-none = length-replicate {A = ℕ} cells 0
+
 pub empty-fine : (r l w : ℕ) → 1 ≤ r → r ≤ 1024 → Wellformed (empty r l w)
 unfolding empty
 empty-fine r l w h g = record {
@@ -499,4 +567,5 @@ empty-fine r l w h g = record {
   commitWide = tt;
   dataFit = omega arith;
   commitFit = omega arith;
+  table = length-none;
 }

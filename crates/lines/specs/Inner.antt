@@ -23,7 +23,7 @@ pub record Spoken (p : Response) (w : Memory) (out : List ℕ) (at : ℕ) (out�
   pub text : Put out at (p .text) out′ used
   pub room : used ≤ at + answerRoom
 
--- what a line, whose response is p, leaves of numbers, columns, buffers and text
-abbrev pub Says : (Memory → Response) → Head → Both Clients Clients → Lent → Lent → Lent → ℕ → Answered → Type 0
-Says p h k d c out at r =
-    Spoken (p (memoryFound h k d c)) (memoryLeft (r .head) k d c) (out .entry .now) at (out .exit .now) (r .used)
+-- what a line, whose response is p, leaves of numbers, columns, buffers, version table and text
+abbrev pub Says : (Memory → Response) → Head → Both Clients Clients → Lent → Lent → Lent → Lent → ℕ → Answered → Type 0
+Says p h k d c v out at r =
+    Spoken (p (memoryFound h k d c v)) (memoryLeft (r .head) k d c v) (out .entry .now) at (out .exit .now) (r .used)

@@ -1,4 +1,4 @@
-// The answer to a line, on a record apart and the program's two buffers. Definitions: crate spec, specs/Session.antt.
+// The answer to a line, on a record apart, the program's two buffers and its version table. Definitions: crate spec, specs/Session.antt.
 use record::Head;
 use spec::CLIENTS;
 use spec::COMMIT_ROW;
@@ -8,6 +8,7 @@ use spec::Form;
 use spec::ReadAnswer;
 use spec::Reading;
 use spec::Set;
+use spec::VERSIONS;
 ghost use mathlib.Core.Path.{_≡_};
 ghost use mathlib.Core.List.{List};
 ghost use Prim.Native.Nat.{ℕ, _+_, _≤_};
@@ -51,12 +52,13 @@ fn set_up_said(
     limit: u32,
     rows: &mut [u8],
     commits: &mut [u8],
+    versions: &mut [u32; VERSIONS],
     out: &mut [u8],
     at: usize,
 ) -> Answered
     requires { ⌜ at + answerRoom ≤ length (now out) ⌝ }
     ensures { λ r. ⌜ Says (setUpResponse (Form.SetUp count first limit) count first limit) h
-        (columns stage number snapshot request commit requestWaits commitWaits) rows commits out at r ⌝ }
+        (columns stage number snapshot request commit requestWaits commitWaits) rows commits versions out at r ⌝ }
 {
     let form = Form::SetUp {
         rows: count,
@@ -83,6 +85,7 @@ fn set_up_said(
                 requestWaits,
                 commitWaits,
             );
+            *versions = [0; VERSIONS];
             let next = done.head;
             Answered { head: next, used }
         }
@@ -106,8 +109,9 @@ fn begin_said(
     at: usize,
 ) -> Answered
     requires { ⌜ at + answerRoom ≤ length (now out) ⌝ }
-    ensures { λ r. ⌜ Says (said (Form.Begin client) (Begin client)) h
-        (columns stage number snapshot request commit requestWaits commitWaits) rows commits out at r ⌝ }
+    ensures { λ r. ⌜ ((v : List ℕ) → Says (said (Form.Begin client) (Begin client)) h
+        (columns stage number snapshot request commit requestWaits commitWaits) rows commits (unseen v)
+        out at r) ⌝ }
 {
     let d = front(DATA_ROW * h.rows as usize, rows.len());
     let c = front(COMMIT_ROW * h.rows as usize, commits.len());
@@ -152,12 +156,14 @@ fn read_said(
     cell: u32,
     rows: &[u8],
     commits: &[u8],
+    versions: &mut [u32; VERSIONS],
     out: &mut [u8],
     at: usize,
 ) -> Answered
     requires { ⌜ at + answerRoom ≤ length (now out) ⌝ }
     ensures { λ r. ⌜ ((q m b w : List ℕ) → Says (said (Form.Read client cell) (Read client cell)) h
-        (columns stage number snapshot (unseen q) (unseen m) (unseen b) (unseen w)) rows commits out at r) ⌝ }
+        (columns stage number snapshot (unseen q) (unseen m) (unseen b) (unseen w)) rows commits versions
+        out at r) ⌝ }
 {
     let d = front(DATA_ROW * h.rows as usize, rows.len());
     let c = front(COMMIT_ROW * h.rows as usize, commits.len());
@@ -168,6 +174,7 @@ fn read_said(
         snapshot,
         &rows[..d],
         &commits[..c],
+        versions,
         client,
         cell,
     );
@@ -191,9 +198,10 @@ fn write_said(
     at: usize,
 ) -> Answered
     requires { ⌜ at + answerRoom ≤ length (now out) ⌝ }
-    ensures { λ r. ⌜ ((s q m b w : List ℕ) → Says
+    ensures { λ r. ⌜ ((s q m b w v : List ℕ) → Says
         (said (Form.Write client cell place) (Write client cell (valueIn (now (line .entry)) place))) h
-        (columns stage number (unseen s) (unseen q) (unseen m) (unseen b) (unseen w)) rows commits out at r) ⌝ }
+        (columns stage number (unseen s) (unseen q) (unseen m) (unseen b) (unseen w)) rows commits (unseen v)
+        out at r) ⌝ }
 {
     let d = front(DATA_ROW * h.rows as usize, rows.len());
     let c = front(COMMIT_ROW * h.rows as usize, commits.len());
@@ -239,8 +247,9 @@ fn advance_said(
     at: usize,
 ) -> Answered
     requires { ⌜ at + answerRoom ≤ length (now out) ⌝ }
-    ensures { λ r. ⌜ Says (said (Form.Advance client) (Advance client)) h
-        (columns stage number snapshot request commit requestWaits commitWaits) rows commits out at r ⌝ }
+    ensures { λ r. ⌜ ((v : List ℕ) → Says (said (Form.Advance client) (Advance client)) h
+        (columns stage number snapshot request commit requestWaits commitWaits) rows commits (unseen v)
+        out at r) ⌝ }
 {
     let d = front(DATA_ROW * h.rows as usize, rows.len());
     let c = front(COMMIT_ROW * h.rows as usize, commits.len());
@@ -279,8 +288,9 @@ fn abandon_said(
     at: usize,
 ) -> Answered
     requires { ⌜ at + answerRoom ≤ length (now out) ⌝ }
-    ensures { λ r. ⌜ Says (said (Form.Abandon client) (Abandon client)) h
-        (columns stage number snapshot request commit requestWaits commitWaits) rows commits out at r ⌝ }
+    ensures { λ r. ⌜ ((v : List ℕ) → Says (said (Form.Abandon client) (Abandon client)) h
+        (columns stage number snapshot request commit requestWaits commitWaits) rows commits (unseen v)
+        out at r) ⌝ }
 {
     let d = front(DATA_ROW * h.rows as usize, rows.len());
     let c = front(COMMIT_ROW * h.rows as usize, commits.len());
@@ -314,8 +324,9 @@ fn trim_said(
     at: usize,
 ) -> Answered
     requires { ⌜ at + answerRoom ≤ length (now out) ⌝ }
-    ensures { λ r. ⌜ ((q m b w : List ℕ) → Says (said Form.Trim Trim) h
-        (columns stage number snapshot (unseen q) (unseen m) (unseen b) (unseen w)) rows commits out at r) ⌝ }
+    ensures { λ r. ⌜ ((q m b w v : List ℕ) → Says (said Form.Trim Trim) h
+        (columns stage number snapshot (unseen q) (unseen m) (unseen b) (unseen w)) rows commits (unseen v)
+        out at r) ⌝ }
 {
     let d = front(DATA_ROW * h.rows as usize, rows.len());
     let c = front(COMMIT_ROW * h.rows as usize, commits.len());
@@ -342,8 +353,9 @@ fn free_said(
     at: usize,
 ) -> Answered
     requires { ⌜ at + answerRoom ≤ length (now out) ⌝ }
-    ensures { λ r. ⌜ ((n s q m b w : List ℕ) → Says (said Form.Free Free) h
-        (columns stage (unseen n) (unseen s) (unseen q) (unseen m) (unseen b) (unseen w)) rows commits out at r) ⌝ }
+    ensures { λ r. ⌜ ((n s q m b w v : List ℕ) → Says (said Form.Free Free) h
+        (columns stage (unseen n) (unseen s) (unseen q) (unseen m) (unseen b) (unseen w)) rows commits (unseen v)
+        out at r) ⌝ }
 {
     let d = front(DATA_ROW * h.rows as usize, rows.len());
     let c = front(COMMIT_ROW * h.rows as usize, commits.len());
@@ -366,12 +378,13 @@ pub fn answer_line(
     line: &[u8],
     rows: &mut [u8],
     commits: &mut [u8],
+    versions: &mut [u32; VERSIONS],
     out: &mut [u8],
     at: usize,
 ) -> Answered
     requires { ⌜ at + answerRoom ≤ length (now out) ⌝ }
     ensures { λ r. ⌜ Says (answerTo (now (line .entry))) h
-        (columns stage number snapshot request commit requestWaits commitWaits) rows commits out at r ⌝ }
+        (columns stage number snapshot request commit requestWaits commitWaits) rows commits versions out at r ⌝ }
 {
     let form = text::form_of(line);
     match form {
@@ -393,6 +406,7 @@ pub fn answer_line(
             limit,
             rows,
             commits,
+            versions,
             out,
             at,
         ),
@@ -420,6 +434,7 @@ pub fn answer_line(
             cell,
             rows,
             commits,
+            versions,
             out,
             at,
         ),

@@ -1,16 +1,18 @@
 // The row that a read finds. Rows are gone through from the last to the first, where the newest version of a cell is
 // likely met first: once one is known, committed rows numbered below it are passed over, and so are data rows with
-// tags below all that the other committed rows and the reader have. No order of the rows is relied on.
+// tags below all that the other committed rows and the reader have. Where the last rows of the cell are all too new for
+// the reader, committed rows numbered below the cell's entry in the version table are passed over, and data rows with
+// tags above all that the others up to the snapshot and the reader have. No order of the rows is relied on.
 ghost use mathlib.Core.Path.{_≡_};
 ghost use mathlib.Core.List.{List};
 ghost use Prim.Native.Nat.{ℕ, _+_, _*_, _≤_, _<_};
 ghost use lib.ListN.{length};
 ghost use Rattle.spec.specs.Rows.{dataWidth, commitWidth, dataRowsIn, commitRowsIn, Row, rowAt};
 ghost use Rattle.spec.specs.Rows.{tagOf, cellOf, commitNumber};
-ghost use Rattle.spec.specs.Numbers.{upTo};
-ghost use Rattle.spec.specs.Look.{commitOf, lookFor};
+ghost use Rattle.spec.specs.Numbers.{atLeast, upTo};
+ghost use Rattle.spec.specs.Look.{commitOf, leastLooked, lookFrom};
 ghost use Rattle.search.specs.Inner.{Next, Last};
-ghost use Rattle.looks.specs.Inner.{Older, LeastTag, NumberedBelow, atLeast, Seen};
+ghost use Rattle.looks.specs.Inner.{PassedOver, LeastTag, MostTag, NumberedBelow, Seen, LastVersion};
 use spec::Lookup;
 use spec::Number;
 
@@ -26,13 +28,21 @@ fn last_cell(rows: &[u8], until: usize, cell: u32) -> usize
     }
     let short = cell as u16;
     let mut i = until;
-    while 16 <= i {
-        for j in 0..16 {
+    while 32 <= i {
+        for j in 0..32 {
             if rows::short_cell_at(rows, i - 1 - j) == short {
                 return i - j;
             }
         }
-        i -= 16;
+        i -= 32;
+    }
+    while 8 <= i {
+        for j in 0..8 {
+            if rows::short_cell_at(rows, i - 1 - j) == short {
+                return i - j;
+            }
+        }
+        i -= 8;
     }
     while 0 < i {
         if rows::short_cell_at(rows, i - 1) == short {
@@ -43,19 +53,19 @@ fn last_cell(rows: &[u8], until: usize, cell: u32) -> usize
     0
 }
 
-// Rows with tags from least on.
+// Rows with tags from least on, and up to most.
 fn last_tag(rows: &[u8], until: usize, least: u32) -> usize
     requires { ⌜ dataWidth * until ≤ length (now rows) ⌝ }
     ensures { λ r. ⌜ Last (λ k. least ≤ tagOf (rowAt dataWidth k (now (rows .entry)))) until r ⌝ }
 {
     let mut i = until;
-    while 16 <= i {
-        for j in 0..16 {
+    while 32 <= i {
+        for j in 0..32 {
             if least <= rows::tag_at(rows, i - 1 - j) {
                 return i - j;
             }
         }
-        i -= 16;
+        i -= 32;
     }
     while 0 < i {
         if least <= rows::tag_at(rows, i - 1) {
@@ -66,31 +76,61 @@ fn last_tag(rows: &[u8], until: usize, least: u32) -> usize
     0
 }
 
+fn last_up_to(rows: &[u8], until: usize, most: u32) -> usize
+    requires { ⌜ dataWidth * until ≤ length (now rows) ⌝ }
+    ensures { λ r. ⌜ Last (λ k. tagOf (rowAt dataWidth k (now (rows .entry))) ≤ most) until r ⌝ }
+{
+    let mut i = until;
+    while 32 <= i {
+        for j in 0..32 {
+            if rows::tag_at(rows, i - 1 - j) <= most {
+                return i - j;
+            }
+        }
+        i -= 32;
+    }
+    while 0 < i {
+        if rows::tag_at(rows, i - 1) <= most {
+            return i;
+        }
+        i -= 1;
+    }
+    0
+}
+
 // A row of that cell such that all rows from it on to until are of other cells or have tags below least.
 fn older(rows: &[u8], until: usize, least: u32, cell: u32) -> usize
     requires { ⌜ dataWidth * until ≤ length (now rows) ⌝ }
-    ensures { λ r. ⌜ Older (now (rows .entry)) least cell until r ⌝ }
+    ensures { λ r. ⌜ PassedOver (λ t. least ≤ t) (now (rows .entry)) cell until r ⌝ }
 {
     last_cell(rows, last_tag(rows, until, least), cell)
 }
 
-// ---- committed rows that may overtake a version
+// The same with tags above most.
+fn not_newer(rows: &[u8], until: usize, most: u32, cell: u32) -> usize
+    requires { ⌜ dataWidth * until ≤ length (now rows) ⌝ }
+    ensures { λ r. ⌜ PassedOver (λ t. t ≤ most) (now (rows .entry)) cell until r ⌝ }
+{
+    last_cell(rows, last_up_to(rows, until, most), cell)
+}
+
+// ---- committed rows that count
 
 // The first committed row numbered least or above; entries where there is none.
 fn next_numbered(commits: &[u8], entries: usize, least: u32) -> usize
     requires { ⌜ commitWidth * entries ≤ length (now commits) ⌝ }
     ensures { λ r. ⌜ Next (λ k. least ≤ commitNumber (rowAt commitWidth k (now (commits .entry)))) 0 entries r ⌝ }
 {
-    let turns = entries / 16;
+    let turns = entries / 32;
     for t in 0..turns {
-        for j in 0..16 {
-            let i = 16 * t + j;
+        for j in 0..32 {
+            let i = 32 * t + j;
             if least <= rows::commit_number_at(commits, i) {
                 return i;
             }
         }
     }
-    let mut i = 16 * turns;
+    let mut i = 32 * turns;
     while i < entries {
         if least <= rows::commit_number_at(commits, i) {
             return i;
@@ -115,6 +155,26 @@ fn least_tag(commits: &[u8], from: usize, entries: usize, tag: u32) -> u32
         i += 1;
     }
     least
+}
+
+// The largest of the reader's number and the tags of the committed rows from row from on that are numbered up to the
+// snapshot.
+fn most_tag(commits: &[u8], from: usize, entries: usize, tag: u32, snapshot: u32) -> u32
+    requires { ⌜ commitWidth * entries ≤ length (now commits) ⌝ }
+    ensures { λ r. ⌜ MostTag (now (commits .entry)) from entries tag snapshot r ⌝ }
+{
+    let mut most = tag;
+    let mut i = from;
+    while i < entries {
+        if rows::commit_number_at(commits, i) <= snapshot {
+            let other = rows::commit_tag_at(commits, i);
+            if most < other {
+                most = other;
+            }
+        }
+        i += 1;
+    }
+    most
 }
 
 // The number that the transaction is committed under, if it is from least up to the snapshot. Committed rows before
@@ -158,8 +218,8 @@ fn own_version(rows: &[u8], k: usize, tag: u32, cell: u32) -> Lookup
     requires { ⌜ dataWidth * k + 24 ≤ length (now rows) ⌝ }
     requires { ⌜ tagOf (rowAt dataWidth k (now rows)) ≡ tag ⌝ }
     requires { ⌜ cellOf (rowAt dataWidth k (now rows)) ≡ cell ⌝ }
-    ensures { λ r. ⌜ ((s n : ℕ) (cs : List Row) → k < n
-        → r ≡ lookFor tag cell s (dataRowsIn n (now (rows .entry))) cs) ⌝ }
+    ensures { λ r. ⌜ ((e s n : ℕ) (cs : List Row) → k < n
+        → r ≡ lookFrom e tag cell s (dataRowsIn n (now (rows .entry))) cs) ⌝ }
 {
     let mut at = k;
     let mut i = search::last_tagged(rows, k, tag);
@@ -181,15 +241,17 @@ fn look_before(
     tag: u32,
     cell: u32,
     snapshot: u32,
+    entry: u32,
     at: usize,
     number: u32,
 ) -> Lookup
     requires { ⌜ dataWidth * used ≤ length (now rows) ⌝ }
     requires { ⌜ commitWidth * entries ≤ length (now commits) ⌝ }
     requires { ⌜ at ≤ used ⌝ }
-    requires { ⌜ Seen tag cell snapshot used (now rows) (commitRowsIn entries (now commits)) at
-        (Lookup.Version at number) ⌝ }
-    ensures { λ r. ⌜ r ≡ lookFor tag cell snapshot (dataRowsIn used (now (rows .entry)))
+    requires { ⌜ leastLooked entry snapshot ≤ number ⌝ }
+    requires { ⌜ Seen (leastLooked entry snapshot) tag cell snapshot used (now rows)
+        (commitRowsIn entries (now commits)) at (Lookup.Version at number) ⌝ }
+    ensures { λ r. ⌜ r ≡ lookFrom entry tag cell snapshot (dataRowsIn used (now (rows .entry)))
         (commitRowsIn entries (now (commits .entry))) ⌝ }
 {
     let near = last_cell(rows, at, cell);
@@ -213,7 +275,106 @@ fn look_before(
     best
 }
 
-// The row that a read finds: the reader's own, else the visible one.
+// The last row before row until that counts, where none from it on does.
+fn earlier_version(
+    rows: &[u8],
+    used: usize,
+    commits: &[u8],
+    entries: usize,
+    tag: u32,
+    cell: u32,
+    snapshot: u32,
+    least: u32,
+    until: usize,
+) -> Lookup
+    requires { ⌜ dataWidth * used ≤ length (now rows) ⌝ }
+    requires { ⌜ commitWidth * entries ≤ length (now commits) ⌝ }
+    requires { ⌜ until ≤ used ⌝ }
+    requires { ⌜ Seen least tag cell snapshot used (now rows) (commitRowsIn entries (now commits)) until
+        Lookup.Nothing ⌝ }
+    ensures { λ r. ⌜ LastVersion least tag cell snapshot used (now (rows .entry))
+        (commitRowsIn entries (now (commits .entry))) r ⌝ }
+{
+    let from = next_numbered(commits, entries, least);
+    let most = most_tag(commits, from, entries, tag, snapshot);
+    let mut i = not_newer(rows, until, most, cell);
+    while 0 < i {
+        let k = i - 1;
+        let writer = rows::tag_at(rows, k);
+        if writer == tag {
+            return Lookup::Version { at: k, number: 0 };
+        }
+        let found = recent_commit(commits, from, entries, writer, least, snapshot);
+        match found {
+            Number::Some(number) => {
+                return Lookup::Version { at: k, number };
+            }
+            Number::None => {}
+        }
+        i = not_newer(rows, k, most, cell);
+    }
+    Lookup::Nothing
+}
+
+// The least number that is looked at.
+fn least_looked(entry: u32, snapshot: u32) -> u32
+    ensures { λ r. ⌜ r ≡ leastLooked entry snapshot ⌝ }
+{
+    if entry <= snapshot { entry } else { 0 }
+}
+
+// The last row that counts. Two rows of the cell are asked for their commits, which is enough as a rule.
+fn last_version(
+    rows: &[u8],
+    used: usize,
+    commits: &[u8],
+    entries: usize,
+    tag: u32,
+    cell: u32,
+    snapshot: u32,
+    entry: u32,
+) -> Lookup
+    requires { ⌜ dataWidth * used ≤ length (now rows) ⌝ }
+    requires { ⌜ commitWidth * entries ≤ length (now commits) ⌝ }
+    ensures { λ r. ⌜ LastVersion (leastLooked entry snapshot) tag cell snapshot used (now (rows .entry))
+        (commitRowsIn entries (now (commits .entry))) r ⌝ }
+{
+    let least = least_looked(entry, snapshot);
+    let mut until = used;
+    for _turn in 0u32..2 {
+        let i = last_cell(rows, until, cell);
+        if i == 0 {
+            return Lookup::Nothing;
+        }
+        let k = i - 1;
+        let writer = rows::tag_at(rows, k);
+        if writer == tag {
+            return Lookup::Version { at: k, number: 0 };
+        }
+        let number = search::commit_of(commits, entries, writer);
+        let found = numbers::at_least(least, numbers::up_to(snapshot, number));
+        match found {
+            Number::Some(n) => {
+                return Lookup::Version { at: k, number: n };
+            }
+            Number::None => {}
+        }
+        until = k;
+    }
+    earlier_version(
+        rows,
+        used,
+        commits,
+        entries,
+        tag,
+        cell,
+        snapshot,
+        least,
+        until,
+    )
+}
+
+// The row that a read finds by the cell's entry in the version table: the reader's own, else the visible one.
 pub fn look_for(
     rows: &[u8],
     used: usize,
@@ -222,27 +383,32 @@ pub fn look_for(
     tag: u32,
     cell: u32,
     snapshot: u32,
+    entry: u32,
 ) -> Lookup
     requires { ⌜ dataWidth * used ≤ length (now rows) ⌝ }
     requires { ⌜ commitWidth * entries ≤ length (now commits) ⌝ }
-    ensures { λ r. ⌜ r ≡ lookFor tag cell snapshot (dataRowsIn used (now (rows .entry)))
+    ensures { λ r. ⌜ r ≡ lookFrom entry tag cell snapshot (dataRowsIn used (now (rows .entry)))
         (commitRowsIn entries (now (commits .entry))) ⌝ }
 {
-    let mut i = last_cell(rows, used, cell);
-    while 0 < i {
-        let k = i - 1;
-        let writer = rows::tag_at(rows, k);
-        if writer == tag {
-            return own_version(rows, k, tag, cell);
-        }
-        let found = numbers::up_to(snapshot, search::commit_of(commits, entries, writer));
-        match found {
-            Number::Some(number) => {
-                return look_before(rows, used, commits, entries, tag, cell, snapshot, k, number);
+    let last = last_version(rows, used, commits, entries, tag, cell, snapshot, entry);
+    match last {
+        Lookup::Version { at, number } => {
+            if rows::tag_at(rows, at) == tag {
+                return own_version(rows, at, tag, cell);
             }
-            Number::None => {}
+            look_before(
+                rows,
+                used,
+                commits,
+                entries,
+                tag,
+                cell,
+                snapshot,
+                entry,
+                at,
+                number,
+            )
         }
-        i = last_cell(rows, k, cell);
+        Lookup::Nothing => Lookup::Nothing,
     }
-    Lookup::Nothing
 }

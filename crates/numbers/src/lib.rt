@@ -1,6 +1,6 @@
 // Commit numbers that may be missing, and the newer of two versions.
 ghost use mathlib.Core.Path.{_≡_};
-ghost use Rattle.spec.specs.Numbers.{lesser, above, upTo};
+ghost use Rattle.spec.specs.Numbers.{lesser, above, atLeast, upTo};
 ghost use Rattle.spec.specs.Look.{newer, versionAt};
 use spec::Lookup;
 use spec::Number;
@@ -11,6 +11,16 @@ pub fn up_to(snapshot: u32, number: Number) -> Number
 {
     match number {
         Number::Some(n) => { if n <= snapshot { number } else { Number::None } }
+        Number::None => Number::None,
+    }
+}
+
+// The number, if it is at least m.
+pub fn at_least(m: u32, number: Number) -> Number
+    ensures { λ r. ⌜ r ≡ atLeast m number ⌝ }
+{
+    match number {
+        Number::Some(n) => { if n < m { Number::None } else { number } }
         Number::None => Number::None,
     }
 }

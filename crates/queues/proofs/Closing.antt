@@ -10,10 +10,10 @@ use Rattle.spec.specs.Image.{Clients, imageOf, closed}
 use Rattle.spec.specs.Bytes.{countersIn, clientsIn, recordOf, afterOf, encode}
 use Rattle.spec.proofs.Ends.{ends-same}
 
-pub closes : {A : Type 0} (s : Store) (d c : List ℕ) (k : ℕ) (z : Clients) (a : Answer A) → z ≡ closed k (clientsIn s)
-    → afterOf (recordOf (s .rows) (s .limit) (countersIn s) z (s .used) (s .entries)) d c a
+pub closes : {A : Type 0} (s : Store) (d c v : List ℕ) (k : ℕ) (z : Clients) (a : Answer A) → z ≡ closed k (clientsIn s)
+    → afterOf (recordOf (s .rows) (s .limit) (countersIn s) z (s .used) (s .entries)) d c v a
     ≡ encode s d c (record {
-      image = imageOf (s .rows) (s .limit) (countersIn s) (closed k (clientsIn s)) (rowsIn 24 (s .used) d) (rowsIn 8 (s .entries) c);
+      image = imageOf (s .rows) (s .limit) (countersIn s) (closed k (clientsIn s)) (rowsIn 24 (s .used) d) (rowsIn 8 (s .entries) c) v;
       answer = a;
     })
-closes s d c k z a e = rw e (ends-same s d c _ _ a)
+closes s d c v k z a e = rw e (ends-same s d c v _ _ a)

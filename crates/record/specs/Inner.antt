@@ -47,24 +47,28 @@ columns g n s q m r w = record {
 abbrev pub noClients : Clients
 noClients = clientsOf zeros zeros zeros zeros zeros zeros zeros
 
--- the memory of numbers, columns and lent buffers, before and after
-abbrev pub memoryFound : Head → Both Clients Clients → Lent → Lent → Memory
-memoryFound h k d c = memoryOf (whole h (k .entry)) (d .entry .now) (c .entry .now)
+-- the memory of numbers, columns, lent buffers and version table, before and after
+abbrev pub memoryFound : Head → Both Clients Clients → Lent → Lent → Lent → Memory
+memoryFound h k d c v = memoryOf (whole h (k .entry)) (d .entry .now) (c .entry .now) (v .entry .now)
 
-abbrev pub memoryLeft : Head → Both Clients Clients → Lent → Lent → Memory
-memoryLeft h k d c = memoryOf (whole h (k .exit)) (d .exit .now) (c .exit .now)
+abbrev pub memoryLeft : Head → Both Clients Clients → Lent → Lent → Lent → Memory
+memoryLeft h k d c v = memoryOf (whole h (k .exit)) (d .exit .now) (c .exit .now) (v .exit .now)
 
 -- ---- The promises of calls on a record apart.
 
--- of a call: it has found numbers h, and left h′ and the answer a, as its definition f says
+-- of a call that is lent the version table v: it has found numbers h, and left h′ and the answer a, as its definition f says
+abbrev pub PerformsWith : {A : Type 0} → (Image → Outcome A) → Head → Both Clients Clients → Lent → Lent → Lent → Head → Answer A → Type 0
+PerformsWith f h k d c v h′ a = Performs f (memoryFound h k d c v) (memoryLeft h′ k d c v) a
+
+-- of any other: so with every version table, which stays
 abbrev pub PerformsOn : {A : Type 0} → (Image → Outcome A) → Head → Both Clients Clients → Lent → Lent → Head → Answer A → Type 0
-PerformsOn f h k d c h′ a = Performs f (memoryFound h k d c) (memoryLeft h′ k d c) a
+PerformsOn f h k d c h′ a = (v : List ℕ) → PerformsWith f h k d c (unseen v) h′ a
 
 -- of a call's inner part, where the store is known to be fit
 abbrev pub Transforms : {A : Type 0} → (Image → Outcome A) → Head → Both Clients Clients → Lent → Lent → Head → Answer A → Type 0
-Transforms f h k d c h′ a =
-    afterOf (whole h′ (k .exit)) (d .exit .now) (c .exit .now) a
-    ≡ encode (whole h (k .entry)) (d .entry .now) (c .entry .now) (f (decode (whole h (k .entry)) (d .entry .now) (c .entry .now)))
+Transforms f h k d c h′ a = (v : List ℕ) →
+    afterOf (whole h′ (k .exit)) (d .exit .now) (c .exit .now) v a
+    ≡ encode (whole h (k .entry)) (d .entry .now) (c .entry .now) (f (decode (whole h (k .entry)) (d .entry .now) (c .entry .now) v))
 
 -- ---- What is seen in some of the columns, whatever the others hold.
 

@@ -154,7 +154,7 @@ module _ (s : List ℕ) (from e : ℕ) (h : e ≡ newlineFrom from (drop from s)
   state-more whole a = rw (p .memory) (rw (lines-at s from e h m l, after-cons) at a)
 
 -- what a record apart was fed, it was fed by value
-pub fed-by-value : {i d c d′ c′ out out′ : List ℕ} {start at from used : ℕ} {s t s′ t′ : Store} → s ≡ t → s′ ≡ t′
-    → Fed i start (memoryOf s d c) out at from (memoryOf s′ d′ c′) out′ used
-    → Fed i start (memoryOf t d c) out at from (memoryOf t′ d′ c′) out′ used
+pub fed-by-value : {i d c v d′ c′ v′ out out′ : List ℕ} {start at from used : ℕ} {s t s′ t′ : Store} → s ≡ t → s′ ≡ t′
+    → Fed i start (memoryOf s d c v) out at from (memoryOf s′ d′ c′ v′) out′ used
+    → Fed i start (memoryOf t d c v) out at from (memoryOf t′ d′ c′ v′) out′ used
 fed-by-value e g r = rw (← e, ← g) r

@@ -53,10 +53,10 @@ pub record Fed (s : List ℕ) (start : ℕ) (w : Memory) (out : List ℕ) (at : 
     pub stopped : (length out′ < used + answerRoom) ⊎ (newlineFrom from (drop from s) ≡ length s)
     pub moved : (start < from) ⊎ ((from ≡ start) × (used ≡ at))
 
--- the same of numbers, columns, buffers and text
-abbrev pub Feeds : List ℕ → ℕ → Head → Both Clients Clients → Lent → Lent → Lent → ℕ → FeedResult → Type 0
-Feeds s start h k d c out at r =
-    Fed s start (memoryFound h k d c) (out .entry .now) at (r .from) (memoryLeft (r .head) k d c) (out .exit .now) (r .used)
+-- the same of numbers, columns, buffers, version table and text
+abbrev pub Feeds : List ℕ → ℕ → Head → Both Clients Clients → Lent → Lent → Lent → Lent → ℕ → FeedResult → Type 0
+Feeds s start h k d c v out at r =
+    Fed s start (memoryFound h k d c v) (out .entry .now) at (r .from) (memoryLeft (r .head) k d c v) (out .exit .now) (r .used)
 
 -- w′ is what all whole lines of s leave of w, and from a place on stands what is behind the last newline
 pub record Emptied (s : List ℕ) (w w′ : Memory) (from : ℕ) : Type 0 where

@@ -4,6 +4,7 @@ use record::Head;
 use spec::CLIENTS;
 use spec::Set;
 use spec::Store;
+use spec::VERSIONS;
 ghost use Prim.Native.Nat.{_≤_};
 ghost use lib.ListN.{length};
 ghost use Rattle.spec.specs.Bytes.{memoryOf};
@@ -31,13 +32,14 @@ fn feed(
     start: usize,
     rows: &mut [u8],
     commits: &mut [u8],
+    versions: &mut [u32; VERSIONS],
     out: &mut [u8],
     at: usize,
 ) -> FeedResult
     requires { ⌜ start ≤ length (now buf) ⌝ }
     requires { ⌜ at ≤ length (now out) ⌝ }
     ensures { λ r. ⌜ Feeds (now (buf .entry)) start h
-        (columns stage number snapshot request commit requestWaits commitWaits) rows commits out at r ⌝ }
+        (columns stage number snapshot request commit requestWaits commitWaits) rows commits versions out at r ⌝ }
 {
     let mut next = h;
     let mut from = start;
@@ -77,6 +79,7 @@ fn feed(
             &buf[from..end],
             rows,
             commits,
+            versions,
             out,
             used,
         );
@@ -104,14 +107,17 @@ pub fn chunk(
     start: usize,
     rows: &mut [u8],
     commits: &mut [u8],
+    versions: &mut [u32; VERSIONS],
     out: &mut [u8],
     at: usize,
 ) -> Chunked
     requires { ⌜ start ≤ length (now buf) ⌝ }
     requires { ⌜ at ≤ length (now out) ⌝ }
     ensures { λ r. ⌜ Fed (now (buf .entry)) start
-        (memoryOf store (now (rows .entry)) (now (commits .entry))) (now (out .entry)) at (r .from)
-        (memoryOf (r .store) (now (rows .exit)) (now (commits .exit))) (now (out .exit)) (r .used) ⌝ }
+        (memoryOf store (now (rows .entry)) (now (commits .entry)) (now (versions .entry)))
+        (now (out .entry)) at (r .from)
+        (memoryOf (r .store) (now (rows .exit)) (now (commits .exit)) (now (versions .exit)))
+        (now (out .exit)) (r .used) ⌝ }
 {
     let mut stage = store.stage;
     let mut number = store.number;
@@ -133,6 +139,7 @@ pub fn chunk(
         start,
         rows,
         commits,
+        versions,
         out,
         at,
     );

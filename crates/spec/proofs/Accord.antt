@@ -38,7 +38,8 @@ zero-is-eight d c w = refl
 abbrev limited : ℕ → After ℕ → Answer ℕ → After ℕ
 limited l a (Answered n) =
     let s : Store = a .memory .store in
-    afterOf (recordOf (s .rows) l (countersIn s) (clientsIn s) (s .used) (s .entries)) (a .memory .dataBytes) (a .memory .commitBytes) (Answered n)
+    afterOf (recordOf (s .rows) l (countersIn s) (clientsIn s) (s .used) (s .entries)) (a .memory .dataBytes) (a .memory .commitBytes)
+    (a .memory .versions) (Answered n)
 limited l a (Refused n) = a
 
 abbrev pub withLimit : ℕ → After ℕ → After ℕ
@@ -67,7 +68,7 @@ rowsBelow zero = []
 rowsBelow (suc n) = dataRow 1 n value ∷ rowsBelow n
 
 abbrev wroteBelow : ℕ → Image
-wroteBelow n = imageOf 12 8 (countersOf 1 0 0 0) (clientsOf zeros (set zeros 0 1) zeros zeros zeros zeros zeros) (rowsBelow n) []
+wroteBelow n = imageOf 12 8 (countersOf 1 0 0 0) (clientsOf zeros (set zeros 0 1) zeros zeros zeros zeros zeros) (rowsBelow n) [] []
 
 -- "9 cell limit reached": the eighth cell is written, the ninth is not
 pub eighth : added 0 7 value (wroteBelow 7) .answer ≡ Answered 4
@@ -97,26 +98,26 @@ pub sixty-four : (leb clients 63 ≡ false) × (leb clients 64 ≡ true)
 sixty-four = (refl, refl)
 
 -- "refusal 3 begins at 64": in every store, and client 63 is one like the others
-pub client-64 : (x : ℕ) (v : List ℕ) (i : Image)
+pub client-64 : (x : ℕ) (v : List ℕ) (i : Image) → length (i .versions) ≡ 1024
     → (begin 64 i ≡ refuse noClient i) × (read 64 x i ≡ refuse noClient i) × (write 64 x v i ≡ refuse noClient i)
     × (advance 64 i ≡ refuse noClient i) × (abandon 64 i ≡ refuse noClient i)
 unfolding begin read write advance abandon
-client-64 x v i = (refl, refl, refl, refl, refl)
+client-64 x v i t = rw (t) (refl, refl, refl, refl, refl)
 
-pub client-63 : (v : List ℕ) (i : Image) → length v ≡ 16 → isOpen i 63 ≡ false
+pub client-63 : (v : List ℕ) (i : Image) → length (i .versions) ≡ 1024 → length v ≡ 16 → isOpen i 63 ≡ false
     → (read 63 7 i ≡ refuse notOpen i) × (write 63 7 v i ≡ refuse notOpen i) × (advance 63 i ≡ refuse notOpen i) × (abandon 63 i ≡ refuse notOpen i)
 unfolding read write advance abandon
-client-63 v i l c = rw (eq-eqb (length v) 16 l, c) (refl, refl, refl, refl)
+client-63 v i t l c = rw (t, eq-eqb (length v) 16 l, c) (refl, refl, refl, refl)
 
 -- "a stage is unknown", of any of the "64 clients, 0 to 63" (document 02, 12): a store of one row with nothing in use, and client 63 at stage g
 abbrev lastAt : ℕ → Store
 lastAt g = recordOf 1 8 (countersOf 0 0 0 0) (clientsOf (set zeros 63 g) zeros zeros zeros zeros zeros zeros) 0 0
 
-pub stage-13 : onBytes free (lastAt 13) (replicate 24 0) (replicate 8 0) ≡ afterOf (lastAt 13) (replicate 24 0) (replicate 8 0) (Answered 1)
+pub stage-13 : onBytes free (lastAt 13) (replicate 24 0) (replicate 8 0) [] ≡ afterOf (lastAt 13) (replicate 24 0) (replicate 8 0) [] (Answered 1)
 unfolding onBytes fits known encode decode storeOf free layout rowsIn rowsFrom flatten
 stage-13 = refl
 
-pub stage-14 : onBytes free (lastAt 14) (replicate 24 0) (replicate 8 0) ≡ afterOf (lastAt 14) (replicate 24 0) (replicate 8 0) (Refused unfit)
+pub stage-14 : onBytes free (lastAt 14) (replicate 24 0) (replicate 8 0) [] ≡ afterOf (lastAt 14) (replicate 24 0) (replicate 8 0) [] (Refused unfit)
 unfolding onBytes fits known
 stage-14 = refl
 
@@ -130,18 +131,18 @@ staged g i =
 
 -- "Read now answers at stages 1 to 11 with the same snapshot and the transaction's own writes": at the first and at the last of them as it would
 -- at stage 0 (the plain table speaks of all of them)
-pub read-while-waiting : (k x : ℕ) (i : Image) (g : List ℕ) → k < clients → x < cells → isOpen i k ≡ true
+pub read-while-waiting : (k x : ℕ) (i : Image) (g : List ℕ) → length (i .versions) ≡ 1024 → k < clients → x < cells → isOpen i k ≡ true
     → (stageOf i k ≡ 1) ⊎ (stageOf i k ≡ 11) → getD g k 0 ≡ 0 → read k x i .answer ≡ read k x (staged g i) .answer
 unfolding read
-read-while-waiting k x i g h l o (inl e) f = rw (lt-leb clients k h, lt-leb cells x l, o, e, f)
-read-while-waiting k x i g h l o (inr e) f = rw (lt-leb clients k h, lt-leb cells x l, o, e, f)
+read-while-waiting k x i g t h l o (inl e) f = rw (t, lt-leb clients k h, lt-leb cells x l, o, e, f)
+read-while-waiting k x i g t h l o (inr e) f = rw (t, lt-leb clients k h, lt-leb cells x l, o, e, f)
 
 -- "stages 12 and 13 still give 7"
-pub read-late : (k x : ℕ) (i : Image) → k < clients → x < cells → isOpen i k ≡ true
+pub read-late : (k x : ℕ) (i : Image) → length (i .versions) ≡ 1024 → k < clients → x < cells → isOpen i k ≡ true
     → (stageOf i k ≡ 12) ⊎ (stageOf i k ≡ 13) → read k x i ≡ refuse wrongStage i
 unfolding read
-read-late k x i h g o (inl e) = rw (lt-leb clients k h, lt-leb cells x g, o, e)
-read-late k x i h g o (inr e) = rw (lt-leb clients k h, lt-leb cells x g, o, e)
+read-late k x i t h g o (inl e) = rw (t, lt-leb clients k h, lt-leb cells x g, o, e)
+read-late k x i t h g o (inr e) = rw (t, lt-leb clients k h, lt-leb cells x g, o, e)
 
 -- only Read is answered during a commit: a Write there still gets 7
 pub write-while-waiting : (k x : ℕ) (v : List ℕ) (i : Image) → k < clients → x < cells → length v ≡ 16 → isOpen i k ≡ true
@@ -170,7 +171,7 @@ three a b c = set (set (set zeros 0 a) 1 b) 2 c
 abbrev entering : List ℕ → List ℕ → List ℕ → Image
 entering stages requestWaits commitWaits =
     imageOf 4 16 (countersOf 3 2 2 0) (clientsOf stages (three 1 2 3) zeros (three 1 2 0) (three 1 2 0) requestWaits commitWaits)
-    (dataRow 1 7 value ∷ dataRow 2 7 value ∷ dataRow 3 7 value ∷ []) []
+    (dataRow 1 7 value ∷ dataRow 2 7 value ∷ dataRow 3 7 value ∷ []) [] []
 
 -- client 0 has client 1 on its list, which has noted its number: it is struck, and client 2, entered since, does not come in
 pub larger-struck : lookRequests 0 (entering (three 4 3 1) (three 2 0 0) zeros) ≡ replies (entering (three 5 3 1) zeros zeros) (Stage 5)
@@ -201,7 +202,7 @@ two a b = set (set zeros 40 a) 63 b
 abbrev farApart : List ℕ → List ℕ → List ℕ → Image
 farApart stages requestWaits commitWaits =
     imageOf 4 8 (countersOf 2 2 2 0) (clientsOf stages (two 1 2) zeros (two 1 2) (two 1 2) requestWaits commitWaits)
-    (dataRow 1 7 value ∷ dataRow 2 7 value ∷ []) []
+    (dataRow 1 7 value ∷ dataRow 2 7 value ∷ []) [] []
 
 pub lists-63 : listRequests 40 (farApart (two 3 3) zeros zeros) ≡ replies (farApart (two 4 3) (two 9223372036854775808 0) zeros) (Stage 4)
 unfolding listRequests goOn queued others collect insert member bit shares any wrote isOwn hasTag tagOf cellOf number dataRow bytesOf
@@ -229,7 +230,7 @@ strikes-63-commit = refl
 
 -- transaction 1 committed cell 7 under 1; client 0's transaction 2, with S 0, wrote it too, and client 1's transaction 3 has it on its list
 abbrev meeting : Clients → List Row → Image
-meeting c r = imageOf 4 16 (countersOf 3 3 1 1) c (dataRow 1 7 value ∷ r) (commitRow 1 1 ∷ [])
+meeting c r = imageOf 4 16 (countersOf 3 3 1 1) c (dataRow 1 7 value ∷ r) (commitRow 1 1 ∷ []) []
 
 abbrev met : Image
 met = meeting (clientsOf (three 5 4 0) (three 2 3 0) zeros (three 2 3 0) zeros (three 0 1 0) zeros) (dataRow 2 7 value ∷ dataRow 3 7 value ∷ [])
@@ -255,7 +256,7 @@ abandon-leaves = refl
 -- transaction 5, with S 1, wrote nothing
 abbrev storeWith : Clients → Image
 storeWith c = imageOf 4 16 (countersOf 5 top top 2) c (dataRow 1 7 value ∷ dataRow 2 7 value ∷ dataRow 4 7 value ∷ [])
-    (commitRow 1 1 ∷ commitRow 2 2 ∷ [])
+    (commitRow 1 1 ∷ commitRow 2 2 ∷ []) []
 
 abbrev underway : Clients
 underway = clientsOf (set zeros 1 8) (set zeros 1 4) (set zeros 1 2) (set zeros 1 3) (set zeros 1 3) zeros zeros
@@ -271,7 +272,7 @@ done-unchanged = refl
 -- ---- Trim
 
 -- "low is the smallest S of open transactions", of all 64 clients: client 63 has S 1, client 40 has S 2, and 3 is the last commit number
-pub low-of-63 : low (imageOf 4 8 (countersOf 5 3 3 3) (clientsOf zeros (two 5 4) (two 2 1) zeros zeros zeros zeros) [] []) ≡ 1
+pub low-of-63 : low (imageOf 4 8 (countersOf 5 3 3 3) (clientsOf zeros (two 5 4) (two 2 1) zeros zeros zeros zeros) [] [] []) ≡ 1
 unfolding low readers smallest lesser
 low-of-63 = refl
 
@@ -279,7 +280,7 @@ low-of-63 = refl
 abbrev thrice : Image
 thrice =
     imageOf 4 16 (countersOf 3 3 3 3) closedAll (dataRow 1 7 value ∷ dataRow 2 7 value ∷ dataRow 3 7 value ∷ [])
-    (commitRow 1 1 ∷ commitRow 2 2 ∷ commitRow 3 3 ∷ [])
+    (commitRow 1 1 ∷ commitRow 2 2 ∷ commitRow 3 3 ∷ []) []
 
 pub one-row-left : trim thrice ≡ replies (withRows thrice (dataRow 3 7 value ∷ []) (commitRow 3 3 ∷ [])) 2
 unfolding

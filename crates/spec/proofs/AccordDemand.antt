@@ -9,11 +9,12 @@ use lib.ListN.{replicate}
 use Rattle.spec.specs.Set.{bit, member, insert, remove, size, collect, strike}
 use Rattle.spec.specs.Rows.{spliced, number, bytesOf, dataRow, tagOf, cellOf, valueOf, withValue, commitNumber, commitTag, rowAt}
 use Rattle.spec.specs.Rows.{rowsIn, rowsFrom, layout, filter, hasTag}
-use Rattle.spec.specs.Numbers.{upTo}
+use Rattle.spec.specs.Numbers.{atLeast, upTo}
 use Rattle.spec.specs.Look.{commitOf, isOwn, find, versionOf, newer, versionAt, newest, ownOr, lookFor}
+use Rattle.spec.specs.Look.{leastLooked, versionFrom, lookFrom, versionsAfter}
 use Rattle.spec.specs.Share.{any, wrote, cellsOf}
 use Rattle.spec.specs.Answers.{Answered}
-use Rattle.spec.specs.Image.{cleared, closed, empty}
+use Rattle.spec.specs.Image.{cleared, closed, noVersions, empty}
 use Rattle.spec.specs.Calls.{free, begun, begin, read, replaced, added, write, removed, abandon}
 use Rattle.spec.specs.Bytes.{decode, storeOf, Memory, encode, known, fits, onBytes, accepts, setUp}
 use Rattle.spec.specs.Run.{Call, Begin, Read, Write, Abandon}
@@ -47,9 +48,9 @@ unfolding
     flatten
     bit member insert remove size collect strike
     spliced number bytesOf dataRow tagOf cellOf valueOf withValue commitNumber commitTag rowAt rowsIn rowsFrom layout filter hasTag
-    upTo commitOf isOwn find versionOf newer versionAt newest ownOr lookFor
+    atLeast upTo commitOf isOwn find versionOf newer versionAt newest ownOr lookFor leastLooked versionFrom lookFrom versionsAfter
     any wrote cellsOf
-    cleared closed empty free begun begin read replaced added write removed abandon
+    cleared closed noVersions empty free begun begin read replaced added write removed abandon
     decode storeOf encode known fits onBytes accepts setUp
     override blank update lastNumber valued or-writer
 right-run = (

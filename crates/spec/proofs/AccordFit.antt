@@ -9,8 +9,9 @@ use lib.ListN.{set, replicate}
 use Rattle.spec.specs.Set.{bit, member, insert, remove, size, collect, strike}
 use Rattle.spec.specs.Rows.{spliced, number, bytesOf, dataRow, tagOf, cellOf, valueOf, withValue, commitRow, commitNumber, commitTag}
 use Rattle.spec.specs.Rows.{rowAt, rowsIn, rowsFrom, layout, filter, hasTag}
-use Rattle.spec.specs.Numbers.{lesser, smallest, above, upTo}
+use Rattle.spec.specs.Numbers.{lesser, smallest, above, atLeast, upTo}
 use Rattle.spec.specs.Look.{commitOf, isOwn, find, versionOf, newer, versionAt, newest, ownOr, lookFor}
+use Rattle.spec.specs.Look.{leastLooked, versionFrom, lookFrom, versionsAfter}
 use Rattle.spec.specs.Share.{any, count, wrote, cellsOf, shares, clash, conflict}
 use Rattle.spec.specs.Trim.{between, later, overtaken, stays, trimmedRows, inUse, trimmedCommits}
 use Rattle.spec.specs.Image.{Image, countersOf, clientsOf, imageOf, cleared, closed, empty}
@@ -65,8 +66,8 @@ unfitExamples = flatten (map (λ m. map (λ q. refusing "2" q m 2) calls) unfitO
 pub unfit-ones : map computed unfitExamples ≡ unfitExamples
 unfolding
     flatten bit member insert remove size collect strike spliced number bytesOf dataRow tagOf cellOf valueOf withValue commitRow commitNumber
-    commitTag rowAt rowsIn rowsFrom layout filter hasTag lesser smallest above upTo commitOf isOwn find versionOf newer versionAt newest ownOr
-    lookFor any count wrote cellsOf shares clash conflict between later overtaken stays trimmedRows inUse trimmedCommits cleared closed empty
+    commitTag rowAt rowsIn rowsFrom layout filter hasTag lesser smallest above atLeast upTo commitOf isOwn find versionOf newer versionAt newest ownOr
+    lookFor leastLooked versionFrom lookFrom versionsAfter any count wrote cellsOf shares clash conflict between later overtaken stays trimmedRows inUse trimmedCommits cleared closed empty
     free begun begin read replaced added write removed abandon readers low trimmedTo trim queued struck others goOn enter takeRequest
     listRequests looked lookRequests check takeCommit listCommits lookCommits addCommit leaveCommits leaveRequests finished advance decode
     storeOf encode known fits onBytes
@@ -92,8 +93,8 @@ fitExamples =
 pub fit-ones : map computed fitExamples ≡ fitExamples
 unfolding
     flatten bit member insert remove size collect strike spliced number bytesOf dataRow tagOf cellOf valueOf withValue commitRow commitNumber
-    commitTag rowAt rowsIn rowsFrom layout filter hasTag lesser smallest above upTo commitOf isOwn find versionOf newer versionAt newest ownOr
-    lookFor any count wrote cellsOf shares clash conflict between later overtaken stays trimmedRows inUse trimmedCommits cleared closed empty
+    commitTag rowAt rowsIn rowsFrom layout filter hasTag lesser smallest above atLeast upTo commitOf isOwn find versionOf newer versionAt newest ownOr
+    lookFor leastLooked versionFrom lookFrom versionsAfter any count wrote cellsOf shares clash conflict between later overtaken stays trimmedRows inUse trimmedCommits cleared closed empty
     free begun begin read replaced added write removed abandon readers low trimmedTo trim queued struck others goOn enter takeRequest
     listRequests looked lookRequests check takeCommit listCommits lookCommits addCommit leaveCommits leaveRequests finished advance decode
     storeOf encode known fits onBytes
@@ -116,7 +117,7 @@ known-stages = refl
 
 -- "a match on the stage number 0 to 13, [..] other stages refused": with 2 too, where Advance comes to one
 abbrev atStage : ℕ → Image
-atStage g = imageOf 1 8 (countersOf 1 0 0 0) (clientsOf (set none 0 g) (set none 0 1) none none none none none) [] []
+atStage g = imageOf 1 8 (countersOf 1 0 0 0) (clientsOf (set none 0 g) (set none 0 1) none none none none none) [] [] []
 
 pub no-such-step : map (λ (g : ℕ). advance 0 (atStage g) .answer) (14 ∷ 15 ∷ 4294967295 ∷ [])
     ≡ Refused 2 ∷ Refused 2 ∷ Refused 2 ∷ []

@@ -1,16 +1,16 @@
--- Document 01's sentences on set-up, in accord with the definitions: what it is given, and the record, the bytes of both buffers and the answer, all
--- written out.
+-- The papers' sentences on set-up, in accord with the definitions: what it is given, and the record, the bytes of both buffers, the version table and
+-- the answer, all written out.
 -- Assumes nothing.
 use Prim.Native.Nat.{ℕ, _*_, _-_}
 use mathlib.Core.Path.{_≡_, refl}
 use mathlib.Core.Bool.{true, false}
 use mathlib.Core.List.{List, [], _∷_, map}
 use lib.ListN.{replicate}
-use Rattle.spec.specs.Image.{empty}
-use Rattle.spec.specs.Bytes.{After, storeOf, known, fits, onBytes, accepts, setUp}
+use Rattle.spec.specs.Image.{noVersions, empty}
+use Rattle.spec.specs.Bytes.{Memory, After, storeOf, known, fits, onBytes, accepts, setUp}
 use Rattle.spec.specs.Run.{Call, Begin, Read, Write, Advance, Abandon, Trim, Free}
 use Rattle.spec.specs.declared.Store.{Store}
-use Rattle.spec.proofs.AccordTable.{sixteen, rubbish, counts, idle, holds, finds, leaves, keeps, Example, refusing, computed}
+use Rattle.spec.proofs.AccordTable.{sixteen, rubbish, counts, idle, holds, findsWith, leaves, keeps, Example, refusing, computed}
 
 -- what a set-up is given, and what it leaves and answers
 pub record Given : Type 0 where
@@ -33,25 +33,29 @@ worked g = record {
   after = setUp (g .dataBytes) (g .commitBytes) (g .first) (g .limit);
 }
 
+-- document 02, 3, of the version table: "one entry for each of the 1,024 cells, all zero at set-up", whether it is refused or not
+abbrev madeNew : Store → List ℕ → List ℕ → Memory
+madeNew s d c = findsWith (replicate 1024 0) s d c
+
 -- "Success zeroes both buffers", whole; "W starts one below the first W given at set-up, R and C at 0", "The last commit number is a field of its own,
 -- 0 at first"; no row in use, nobody open; the answer is the free figure
 abbrev accepted : ℕ → ℕ → ℕ → ℕ → Given
 accepted r w l limit =
     given (24 * r) (8 * r) w l
-    (leaves (finds (holds r limit 0 0 (counts (w - 1) 0 0 0) idle) (replicate (24 * r) 0) (replicate (8 * r) 0)) r)
+    (leaves (madeNew (holds r limit 0 0 (counts (w - 1) 0 0 0) idle) (replicate (24 * r) 0) (replicate (8 * r) 0)) r)
 
 -- "The record handed back then has 0 rows and zeros in all else, and the buffers keep their bytes."
 abbrev nothing : Store
 nothing = holds 0 0 0 0 (counts 0 0 0 0) idle
 
 abbrev refused : ℕ → ℕ → ℕ → ℕ → Given
-refused d c w l = given d c w l (keeps (finds nothing (rubbish d) (rubbish c)) 1)
+refused d c w l = given d c w l (keeps (madeNew nothing (rubbish d) (rubbish c)) 1)
 
 abbrev pub setUps : List Given
 setUps =
     -- two rows, first W 5, limit 3: 48 and 16 bytes, W at 4
     given 48 16 5 3
-    (leaves (finds (holds 2 3 0 0 (counts 4 0 0 0) idle) (replicate 48 0) (replicate 16 0)) 2)
+    (leaves (madeNew (holds 2 3 0 0 (counts 4 0 0 0) idle) (replicate 48 0) (replicate 16 0)) 2)
     -- "the cell limit", 0 for 8 (document 02, 9), up to 64; the first W from 1 to 4,294,967,295
     ∷ accepted 1 1 0 8
     ∷ accepted 1 1 1 1
@@ -75,7 +79,7 @@ setUps =
     ∷ []
 
 pub set-ups : map worked setUps ≡ setUps
-unfolding setUp accepts storeOf empty
+unfolding setUp accepts storeOf noVersions empty
 set-ups = refl
 
 -- the same by the lengths alone, up to 1,024 rows

@@ -1,4 +1,4 @@
--- Tables of examples: what a call finds in a record and two buffers, and what document 01 says that it leaves there and answers, all written out. The
+-- Tables of examples: what a call finds in memory, and what document 01 says that it leaves there and answers, all written out. The
 -- files Accord… that follow hold the tables; each is one theorem, checked by computing the definitions. Nothing here uses a definition of how a record
 -- is changed or of how a row stands in bytes: records are written by their fields, rows by their bytes.
 -- Assumes nothing.
@@ -93,9 +93,17 @@ holds r l u e n b = record {
 
 -- ---- examples
 
--- a record, a data buffer and a committed buffer
+-- a version table: 9 for cell 0, n for cell 7, 0 for all others
+abbrev pub entries : ℕ → List ℕ
+entries n = 9 ∷ 0 ∷ 0 ∷ 0 ∷ 0 ∷ 0 ∷ 0 ∷ n ∷ replicate 1016 0
+
+-- a record, a data buffer, a committed buffer and a version table
+abbrev pub findsWith : List ℕ → Store → List ℕ → List ℕ → Memory
+findsWith v s d c = record { store = s; dataBytes = d; commitBytes = c; versions = v }
+
+-- with a version table that the call does not change
 abbrev pub finds : Store → List ℕ → List ℕ → Memory
-finds s d c = record { store = s; dataBytes = d; commitBytes = c }
+finds s d c = findsWith (entries 0) s d c
 
 abbrev pub leaves : {A : Type 0} → Memory → A → After A
 leaves m a = record { memory = m; answer = Answered a }

@@ -87,46 +87,47 @@ accepted d c w l e =
     }
 
 module _ {A : Type 0} (s : Store) (d c : List ℕ) where
-  -- an outcome laid out, by its record and its buffers
+  -- an outcome laid out, by its record, its buffers and its version table
   pub ends : (o : Outcome A) (s′ : Store) (d′ c′ : List ℕ) (a : Answer A)
       → s′ ≡ storeOf (o .image) → d′ ≡ layout 24 (s .used) (o .image .dataRows) d → c′ ≡ layout 8 (s .entries) (o .image .commitRows) c
       → a ≡ o .answer
-      → afterOf s′ d′ c′ a ≡ encode s d c o
+      → afterOf s′ d′ c′ (o .image .versions) a ≡ encode s d c o
   unfolding encode
   ends o s′ d′ c′ a e f g h = rw (e, f, g, h)
 
-  -- one that leaves the rows as they were
-  pub ends-same : (n : Counters) (k : Clients) (a : Answer A)
-      → afterOf (recordOf (s .rows) (s .limit) n k (s .used) (s .entries)) d c a
-      ≡ encode s d c (record { image = imageOf (s .rows) (s .limit) n k (rowsIn 24 (s .used) d) (rowsIn 8 (s .entries) c); answer = a })
-  unfolding encode storeOf
-  ends-same n k a = rw (length-rows 24 (s .used) d, length-rows 8 (s .entries) c, laid-same 24 (s .used) d, laid-same 8 (s .entries) c)
+  module _ (v : List ℕ) where
+    -- one that leaves the rows as they were
+    pub ends-same : (n : Counters) (k : Clients) (a : Answer A)
+        → afterOf (recordOf (s .rows) (s .limit) n k (s .used) (s .entries)) d c v a
+        ≡ encode s d c (record { image = imageOf (s .rows) (s .limit) n k (rowsIn 24 (s .used) d) (rowsIn 8 (s .entries) c) v; answer = a })
+    unfolding encode storeOf
+    ends-same n k a = rw (length-rows 24 (s .used) d, length-rows 8 (s .entries) c, laid-same 24 (s .used) d, laid-same 8 (s .entries) c)
 
-  -- nothing changed
-  pub image-stays : (o : Outcome A) (a : Answer A) → o ≡ record { image = decode s d c; answer = a } → afterOf s d c a ≡ encode s d c o
-  unfolding decode
-  image-stays o a e = rw e (ends-same (countersIn s) (clientsIn s) a)
-
-  module _ (f : Image → Outcome A) where
-    -- a store that is not fit
-    pub ends-unfit : fits s (length d) (length c) ≡ false → afterOf s d c (Refused unfit) ≡ onBytes f s d c
-    unfolding onBytes
-    ends-unfit e = rw e
-
-    -- a fit one: what the call makes of the image, laid out
-    pub goes : {o : After A} → fits s (length d) (length c) ≡ true → o ≡ encode s d c (f (decode s d c)) → o ≡ onBytes f s d c
-    unfolding onBytes
-    goes e h = rw e h
-
-    -- a call that leaves the rows as they were
-    pub settles : (n : Counters) (k : Clients) (a : Answer A) → fits s (length d) (length c) ≡ true
-        → f (decode s d c) ≡ record { image = imageOf (s .rows) (s .limit) n k (rowsIn 24 (s .used) d) (rowsIn 8 (s .entries) c); answer = a }
-        → afterOf (recordOf (s .rows) (s .limit) n k (s .used) (s .entries)) d c a ≡ onBytes f s d c
-    unfolding onBytes
-    settles n k a e h = rw (e, h) (ends-same n k a)
-
-    -- a refusal
-    pub refuses : (a : Answer A) → fits s (length d) (length c) ≡ true → f (decode s d c) ≡ record { image = decode s d c; answer = a }
-        → afterOf s d c a ≡ onBytes f s d c
+    -- nothing changed
+    pub image-stays : (o : Outcome A) (a : Answer A) → o ≡ record { image = decode s d c v; answer = a } → afterOf s d c v a ≡ encode s d c o
     unfolding decode
-    refuses a e h = settles (countersIn s) (clientsIn s) a e h
+    image-stays o a e = rw e (ends-same (countersIn s) (clientsIn s) a)
+
+    module _ (f : Image → Outcome A) where
+      -- a store that is not fit
+      pub ends-unfit : fits s (length d) (length c) ≡ false → afterOf s d c v (Refused unfit) ≡ onBytes f s d c v
+      unfolding onBytes
+      ends-unfit e = rw e
+
+      -- a fit one: what the call makes of the image, laid out
+      pub goes : {o : After A} → fits s (length d) (length c) ≡ true → o ≡ encode s d c (f (decode s d c v)) → o ≡ onBytes f s d c v
+      unfolding onBytes
+      goes e h = rw e h
+
+      -- a call that leaves the rows as they were
+      pub settles : (n : Counters) (k : Clients) (a : Answer A) → fits s (length d) (length c) ≡ true
+          → f (decode s d c v) ≡ record { image = imageOf (s .rows) (s .limit) n k (rowsIn 24 (s .used) d) (rowsIn 8 (s .entries) c) v; answer = a }
+          → afterOf (recordOf (s .rows) (s .limit) n k (s .used) (s .entries)) d c v a ≡ onBytes f s d c v
+      unfolding onBytes
+      settles n k a e h = rw (e, h) (ends-same n k a)
+
+      -- a refusal
+      pub refuses : (a : Answer A) → fits s (length d) (length c) ≡ true → f (decode s d c v) ≡ record { image = decode s d c v; answer = a }
+          → afterOf s d c v a ≡ onBytes f s d c v
+      unfolding decode
+      refuses a e h = settles (countersIn s) (clientsIn s) a e h

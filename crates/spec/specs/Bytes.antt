@@ -1,4 +1,5 @@
--- How an image stands in a record and two buffers, once for all calls; fitness; set-up.
+-- How an image stands in memory, a record, two buffers and the version table, once for all calls; fitness; set-up. Store s, data buffer d, committed
+-- buffer c, version table v.
 -- Assumes nothing.
 use Prim.Native.Nat.{ℕ, zero, suc, _*_, _-_, _/_}
 use mathlib.Core.Path.{_≡_}
@@ -11,7 +12,7 @@ use Rattle.spec.specs.Set.{clients}
 use Rattle.spec.specs.Rows.{dataWidth, commitWidth, dataRowsIn, commitRowsIn, layout}
 use Rattle.spec.specs.declared.Store.{Store}
 use Rattle.spec.specs.Answers.{Answer, Answered, Refused, badSetUp, unfit}
-use Rattle.spec.specs.Image.{Counters, countersOf, Clients, clientsOf, imageOf, Image, empty}
+use Rattle.spec.specs.Image.{Counters, countersOf, Clients, clientsOf, imageOf, Image, noVersions, empty}
 use Rattle.spec.specs.Calls.{Outcome}
 
 -- ---- the record and the image
@@ -41,37 +42,39 @@ recordOf r l n c d m = record {
   commitWaits = c .commitWaits;
 }
 
--- the image that a record and two buffers show
-unfoldable pub decode : Store → List ℕ → List ℕ → Image
-decode s d c = imageOf (s .rows) (s .limit) (countersIn s) (clientsIn s) (dataRowsIn (s .used) d) (commitRowsIn (s .entries) c)
+-- the image that a record, two buffers and a version table show
+unfoldable pub decode : Store → List ℕ → List ℕ → List ℕ → Image
+decode s d c v = imageOf (s .rows) (s .limit) (countersIn s) (clientsIn s) (dataRowsIn (s .used) d) (commitRowsIn (s .entries) c) v
 
 -- the record of an image
 unfoldable pub storeOf : Image → Store
 storeOf i = recordOf (i .rows) (i .limit) (i .counters) (i .clients) (length (i .dataRows)) (length (i .commitRows))
 
--- ---- a call on a record and two buffers
+-- ---- a call on a memory
 
--- what a call finds and leaves: the record, and each byte of both buffers
+-- what a call finds and leaves: the record, each byte of both buffers, and each entry of the version table
 pub record Memory : Type 0 where
   pub store : Store
   pub dataBytes : List ℕ
   pub commitBytes : List ℕ
+  pub versions : List ℕ
 
-abbrev pub memoryOf : Store → List ℕ → List ℕ → Memory
-memoryOf s d c = record { store = s; dataBytes = d; commitBytes = c }
+abbrev pub memoryOf : Store → List ℕ → List ℕ → List ℕ → Memory
+memoryOf s d c v = record { store = s; dataBytes = d; commitBytes = c; versions = v }
 
 -- all that a call leaves: that, and the answer
 pub record After (A : Type 0) : Type 0 where
   pub memory : Memory
   pub answer : Answer A
 
-abbrev pub afterOf : {A : Type 0} → Store → List ℕ → List ℕ → Answer A → After A
-afterOf s d c a = record { memory = memoryOf s d c; answer = a }
+abbrev pub afterOf : {A : Type 0} → Store → List ℕ → List ℕ → List ℕ → Answer A → After A
+afterOf s d c v a = record { memory = memoryOf s d c v; answer = a }
 
 -- the outcome of a call in the place of what the record s and the buffers d and c held
 unfoldable pub encode : {A : Type 0} → Store → List ℕ → List ℕ → Outcome A → After A
 encode s d c o =
-    afterOf (storeOf (o .image)) (layout dataWidth (s .used) (o .image .dataRows) d) (layout commitWidth (s .entries) (o .image .commitRows) c) (o .answer)
+    afterOf (storeOf (o .image)) (layout dataWidth (s .used) (o .image .dataRows) d) (layout commitWidth (s .entries) (o .image .commitRows) c)
+    (o .image .versions) (o .answer)
 
 -- "rows 1 to 1,024"
 abbrev pub mostRows : ℕ
@@ -96,14 +99,17 @@ fits s d c =
     known (s .stage) clients
 
 -- 2 for an unfit store, and else what the call makes of the image, laid out in its place
-unfoldable pub onBytes : {A : Type 0} → (Image → Outcome A) → Store → List ℕ → List ℕ → After A
-onBytes f s d c =
-    if fits s (length d) (length c) then encode s d c (f (decode s d c)) else
-    afterOf s d c (Refused unfit)
+unfoldable pub onBytes : {A : Type 0} → (Image → Outcome A) → Store → List ℕ → List ℕ → List ℕ → After A
+onBytes f s d c v =
+    if fits s (length d) (length c) then encode s d c (f (decode s d c v)) else
+    afterOf s d c v (Refused unfit)
+
+abbrev pub onMemory : {A : Type 0} → (Image → Outcome A) → Memory → After A
+onMemory f m = onBytes f (m .store) (m .dataBytes) (m .commitBytes) (m .versions)
 
 -- The promise of a call: it has found the memory m and left m′ and the answer a, and so does its definition f.
 abbrev pub Performs : {A : Type 0} → (Image → Outcome A) → Memory → Memory → Answer A → Type 0
-Performs f m m′ a = afterOf (m′ .store) (m′ .dataBytes) (m′ .commitBytes) a ≡ onBytes f (m .store) (m .dataBytes) (m .commitBytes)
+Performs f m m′ a = afterOf (m′ .store) (m′ .dataBytes) (m′ .commitBytes) (m′ .versions) a ≡ onMemory f m
 
 -- ---- "Set-up is given the buffers, the first W and the cell limit", and document 02, 9: "A cell limit of 0 at set-up now stands for 8."
 
@@ -131,14 +137,15 @@ accepts d c w l =
     if eqb w 0 then false else
     not (ltb mostLimit l)
 
--- "The record handed back then has 0 rows and zeros in all else, and the buffers keep their bytes. Success zeroes both buffers."
+-- "The record handed back then has 0 rows and zeros in all else, and the buffers keep their bytes. Success zeroes both buffers." The version table is
+-- made by every set-up: "all zero at set-up" (document 02, 3)
 unfoldable pub setUp : List ℕ → List ℕ → ℕ → ℕ → After ℕ
 setUp d c w l =
     let r : ℕ = rowsOf (length d) in
     if accepts (length d) (length c) w l
-    then afterOf (storeOf (empty r (limitOf l) (w - 1))) (replicate (length d) 0) (replicate (length c) 0) (Answered r)
-    else afterOf (storeOf (empty 0 0 0)) d c (Refused badSetUp)
+    then afterOf (storeOf (empty r (limitOf l) (w - 1))) (replicate (length d) 0) (replicate (length c) 0) noVersions (Answered r)
+    else afterOf (storeOf (empty 0 0 0)) d c noVersions (Refused badSetUp)
 
 -- the promise of a set-up, which was given the buffers d and c
 abbrev pub SetsUp : List ℕ → List ℕ → ℕ → ℕ → Memory → Answer ℕ → Type 0
-SetsUp d c w l m′ a = afterOf (m′ .store) (m′ .dataBytes) (m′ .commitBytes) a ≡ setUp d c w l
+SetsUp d c w l m′ a = afterOf (m′ .store) (m′ .dataBytes) (m′ .commitBytes) (m′ .versions) a ≡ setUp d c w l

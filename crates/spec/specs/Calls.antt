@@ -1,6 +1,6 @@
 -- The calls on an image: what each leaves and answers (document 01, "A transaction" and "Refusal by operation"). Tests stand in the order
 -- in which document 01 gives the refusals, and a refused call leaves the image as it is. Refusal 2 for an unfit store comes before all of
--- these, in Bytes.antt. Client k, cell x, value v. The steps of Advance are in Steps.antt.
+-- these, in Bytes.antt; a Read is also unfit for its version table. Client k, cell x, value v. The steps of Advance are in Steps.antt.
 -- Assumes nothing.
 use Prim.Native.Nat.{ℕ, zero, suc, _+_, _-_}
 use mathlib.Core.Bool.{not}
@@ -17,7 +17,7 @@ use Rattle.spec.specs.declared.Found.the-variants.{At, Missing}
 use Rattle.spec.specs.declared.Lookup.{Lookup}
 use Rattle.spec.specs.declared.Lookup.the-variants.{Version, Nothing}
 use Rattle.spec.specs.Numbers.{top, smallest}
-use Rattle.spec.specs.Look.{isOwn, find, lookFor}
+use Rattle.spec.specs.Look.{isOwn, find, lookFrom, lookFor, versionsAfter}
 use Rattle.spec.specs.Share.{cellsOf}
 use Rattle.spec.specs.Trim.{trimmedRows, trimmedCommits}
 use Rattle.spec.specs.declared.Begun.{Begun}
@@ -27,6 +27,7 @@ use Rattle.spec.specs.Answers.{
   Answer,
   Answered,
   Refused,
+  unfit,
   noClient,
   noCell,
   alreadyOpen,
@@ -37,7 +38,8 @@ use Rattle.spec.specs.Answers.{
   noFreeRow,
   wrongLength,
 }
-use Rattle.spec.specs.Image.{Image, withClients, withRows, withIssued, opened, closed, stageOf, numberOf, snapshotOf, isOpen}
+use Rattle.spec.specs.Image.{Image, withClients, withRows, withVersions, withIssued, opened, closed, stageOf, numberOf, snapshotOf, isOpen}
+use Rattle.spec.specs.Image.{entryFor}
 
 -- what a call makes of an image
 pub record Outcome (A : Type 0) : Type 0 where
@@ -79,19 +81,31 @@ begin k i =
 
 -- ---- "Read looks for a data row with the reader's tag and that cell; failing that, for the row of that cell whose tag is committed with the
 -- largest commit number not above S; failing that it answers Unwritten." "Read: 2, 3, 4 cell above 1,023, 6 nothing open", and document 02, 1:
--- "Read now answers at stages 1 to 11 with the same snapshot and the transaction's own writes; stages 12 and 13 still give 7."
+-- "Read now answers at stages 1 to 11 with the same snapshot and the transaction's own writes; stages 12 and 13 still give 7." Document 02, 3: it looks
+-- by the version table, where what it finds is noted; the table is a lent buffer, unfit (2) where it has not "one entry for each of the 1,024 cells".
 
 abbrev pub reading : Lookup → Reading
 reading (Version at n) = Value at
 reading Nothing = Unwritten
 
+-- the row that client k finds for cell x; and "the full look", at all commits up to S, whatever the cell's entry
+abbrev pub lookOf : ℕ → ℕ → Image → Lookup
+lookOf k x i = lookFrom (entryFor i x) (numberOf i k) x (snapshotOf i k) (i .dataRows) (i .commitRows)
+
+abbrev pub fullLook : ℕ → ℕ → Image → Lookup
+fullLook k x i = lookFor (numberOf i k) x (snapshotOf i k) (i .dataRows) (i .commitRows)
+
+abbrev pub repliesFound : ℕ → Lookup → Image → Outcome Reading
+repliesFound x l i = replies (withVersions i (versionsAfter x l (i .versions))) (reading l)
+
 unfoldable pub read : ℕ → ℕ → Image → Outcome Reading
 read k x i =
+    if not (eqb (length (i .versions)) cells) then refuse unfit i else
     if leb clients k then refuse noClient i else
     if leb cells x then refuse noCell i else
     if not (isOpen i k) then refuse notOpen i else
     if ltb 11 (stageOf i k) then refuse wrongStage i else
-    replies i (reading (lookFor (numberOf i k) x (snapshotOf i k) (i .dataRows) (i .commitRows)))
+    repliesFound x (lookOf k x i) i
 
 -- ---- "Where one client's transaction wrote a cell twice, the second write replaces the value in its row." "In each buffer new rows go in
 -- directly behind the last one in use." "Write: 2, 3, 4, 12 value not 16 bytes, 6, 7; then, if it has no row for that cell yet, 9 cell limit

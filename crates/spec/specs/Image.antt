@@ -1,5 +1,5 @@
--- The image of a store: all that its record and its two buffers hold, with the rows in use as lists of rows. The calls are defined on
--- images (Calls.antt, Steps.antt); how an image stands in a record and two buffers is said once (Bytes.antt).
+-- The image of a store: all that its record, its two buffers and its version table hold, with the rows in use as lists of rows. The calls are defined on
+-- images (Calls.antt, Steps.antt); how an image stands in memory is said once (Bytes.antt).
 -- antt has no record update: each record below is written out once, as a function of its fields, and each change names what it changes.
 -- Assumes nothing.
 use Prim.Native.Nat.{ℕ}
@@ -8,7 +8,7 @@ use mathlib.Core.List.{List, [], map}
 use lib.ListN.{getD, set, replicate}
 use lib.Dec.{eqb}
 use Rattle.spec.specs.Set.{clients, remove}
-use Rattle.spec.specs.Rows.{Row}
+use Rattle.spec.specs.Rows.{Row, cells}
 
 -- "Three counters, 32 bits: W (transactions), R (commit requests), C (commits)": the last number taken of each; and "the last commit number"
 pub record Counters : Type 0 where
@@ -28,7 +28,8 @@ pub record Clients : Type 0 where
   pub requestWaits : List ℕ
   pub commitWaits : List ℕ
 
--- rows of the store, the cell limit, and the data rows and committed rows in use
+-- rows of the store, the cell limit, the data rows and committed rows in use, and, document 02, 3, the version table: "one entry for each of the 1,024
+-- cells"
 pub record Image : Type 0 where
   pub rows : ℕ
   pub limit : ℕ
@@ -36,6 +37,7 @@ pub record Image : Type 0 where
   pub clients : Clients
   pub dataRows : List Row
   pub commitRows : List Row
+  pub versions : List ℕ
 
 -- ---- the three records by their fields
 
@@ -45,19 +47,22 @@ countersOf w r c l = record { issued = w; requested = r; taken = c; last = l }
 abbrev pub clientsOf : List ℕ → List ℕ → List ℕ → List ℕ → List ℕ → List ℕ → List ℕ → Clients
 clientsOf g n s r c b a = record { stage = g; number = n; snapshot = s; request = r; commit = c; requestWaits = b; commitWaits = a }
 
-abbrev pub imageOf : ℕ → ℕ → Counters → Clients → List Row → List Row → Image
-imageOf r l n c d m = record { rows = r; limit = l; counters = n; clients = c; dataRows = d; commitRows = m }
+abbrev pub imageOf : ℕ → ℕ → Counters → Clients → List Row → List Row → List ℕ → Image
+imageOf r l n c d m v = record { rows = r; limit = l; counters = n; clients = c; dataRows = d; commitRows = m; versions = v }
 
 -- ---- changes of the image
 
 abbrev pub withCounters : Image → Counters → Image
-withCounters i n = imageOf (i .rows) (i .limit) n (i .clients) (i .dataRows) (i .commitRows)
+withCounters i n = imageOf (i .rows) (i .limit) n (i .clients) (i .dataRows) (i .commitRows) (i .versions)
 
 abbrev pub withClients : Image → Clients → Image
-withClients i c = imageOf (i .rows) (i .limit) (i .counters) c (i .dataRows) (i .commitRows)
+withClients i c = imageOf (i .rows) (i .limit) (i .counters) c (i .dataRows) (i .commitRows) (i .versions)
 
 abbrev pub withRows : Image → List Row → List Row → Image
-withRows i d m = imageOf (i .rows) (i .limit) (i .counters) (i .clients) d m
+withRows i d m = imageOf (i .rows) (i .limit) (i .counters) (i .clients) d m (i .versions)
+
+abbrev pub withVersions : Image → List ℕ → Image
+withVersions i v = imageOf (i .rows) (i .limit) (i .counters) (i .clients) (i .dataRows) (i .commitRows) v
 
 -- ---- changes of the counters
 
@@ -131,11 +136,18 @@ commitNumberOf i k = getD (i .clients .commit) k 0
 abbrev pub isOpen : Image → ℕ → Bool
 isOpen i k = not (eqb (numberOf i k) 0)
 
--- ---- "W starts one below the first W given at set-up, R and C at 0", "the last commit number is a field of its own, 0 at first": the image after
--- a set-up of r rows with cell limit l, W at w; no client open, no row in use
+-- the entry of cell x in the version table
+abbrev pub entryFor : Image → ℕ → ℕ
+entryFor i x = getD (i .versions) x 0
+
+-- ---- "W starts one below the first W given at set-up, R and C at 0", "the last commit number is a field of its own, 0 at first", and of the
+-- version table, document 02, 3, "all zero at set-up": the image after a set-up of r rows with cell limit l, W at w; no client open, no row in use
 
 abbrev pub zeros : List ℕ
 zeros = replicate clients 0
 
+unfoldable pub noVersions : List ℕ
+noVersions = replicate cells 0
+
 unfoldable pub empty : ℕ → ℕ → ℕ → Image
-empty r l w = imageOf r l (countersOf w 0 0 0) (clientsOf zeros zeros zeros zeros zeros zeros zeros) [] []
+empty r l w = imageOf r l (countersOf w 0 0 0) (clientsOf zeros zeros zeros zeros zeros zeros zeros) [] [] noVersions

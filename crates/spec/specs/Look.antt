@@ -6,7 +6,8 @@
 use Prim.Native.Nat.{ℕ, _+_}
 use mathlib.Core.Bool.{Bool, false}
 use mathlib.Core.List.{List, [], _∷_}
-use lib.Dec.{eqb, ltb}
+use lib.Dec.{eqb, leb, ltb}
+use lib.ListN.{getD, set}
 use Rattle.spec.specs.Choice.{if_then_else_}
 use Rattle.spec.specs.Rows.{Row, tagOf, cellOf, commitNumber, commitTag}
 use Rattle.spec.specs.declared.Number.{Number}
@@ -15,7 +16,7 @@ use Rattle.spec.specs.declared.Found.{Found}
 use Rattle.spec.specs.declared.Found.the-variants.{At, Missing}
 use Rattle.spec.specs.declared.Lookup.{Lookup}
 use Rattle.spec.specs.declared.Lookup.the-variants.{Version, Nothing}
-use Rattle.spec.specs.Numbers.{upTo}
+use Rattle.spec.specs.Numbers.{atLeast, upTo}
 
 -- the number that a tag is committed under, none if it is not
 unfoldable pub commitOf : ℕ → List Row → Number
@@ -59,3 +60,24 @@ ownOr Missing other = other
 -- the row that a reader with that tag and snapshot finds
 unfoldable pub lookFor : ℕ → ℕ → ℕ → List Row → List Row → Lookup
 lookFor tag cell s ds cs = ownOr (find (isOwn tag cell) 0 ds) (newest (versionOf cell s cs) 0 ds)
+
+-- ---- Document 02, 3, the version table v, "with one entry for each of the 1,024 cells": "A read that isn't of its own write looks only at commits
+-- from the entry up to S if the entry is at most S, and at all up to S otherwise." As S is, the entry is held against the number of the tag's first
+-- committed row.
+
+-- the least number that is looked at, for an entry e
+unfoldable pub leastLooked : ℕ → ℕ → ℕ
+leastLooked e s = if leb e s then e else 0
+
+-- the number that a data row of that cell is committed under, where that is from m up to s
+unfoldable pub versionFrom : ℕ → ℕ → ℕ → List Row → Row → Number
+versionFrom m cell s cs r = atLeast m (versionOf cell s cs r)
+
+-- the row that a reader with that tag and snapshot finds, where the cell's entry is e
+unfoldable pub lookFrom : ℕ → ℕ → ℕ → ℕ → List Row → List Row → Lookup
+lookFrom e tag cell s ds cs = ownOr (find (isOwn tag cell) 0 ds) (newest (versionFrom (leastLooked e s) cell s cs) 0 ds)
+
+-- "If it finds a commit above the entry, it stores that there." An own write stands under no commit number, and is stored nowhere
+unfoldable pub versionsAfter : ℕ → Lookup → List ℕ → List ℕ
+versionsAfter cell Nothing v = v
+versionsAfter cell (Version i n) v = if ltb (getD v cell 0) n then set v cell n else v

@@ -25,6 +25,11 @@ unfoldable pub above : ℕ → Number → Number
 above s None = None
 above s (Some n) = if ltb s n then Some n else None
 
+-- the number, where it is at least m
+unfoldable pub atLeast : ℕ → Number → Number
+atLeast m None = None
+atLeast m (Some n) = if ltb n m then None else Some n
+
 -- the number, where it is at most s
 unfoldable pub upTo : ℕ → Number → Number
 upTo s None = None

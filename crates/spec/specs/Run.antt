@@ -1,4 +1,4 @@
--- Lists of calls on a record and two buffers.
+-- Lists of calls on a memory: a record, two buffers and a version table.
 -- Assumes nothing.
 use Prim.Native.Nat.{ℕ}
 use mathlib.Core.List.{List, [], _∷_, List·Memᴰ}
@@ -9,7 +9,7 @@ use Rattle.spec.specs.Answers.{Answer, Answered, Refused}
 use Rattle.spec.specs.Image.{Image}
 use Rattle.spec.specs.Calls.{Outcome, free, begin, read, write, abandon, trim}
 use Rattle.spec.specs.Steps.{advance}
-use Rattle.spec.specs.Bytes.{Memory, After, onBytes}
+use Rattle.spec.specs.Bytes.{Memory, After, onMemory}
 
 -- a call with its arguments: client, cell, value
 pub data Call : Type 0 where
@@ -56,6 +56,6 @@ perform (Abandon k) = abandon k
 perform Trim = trim
 perform Free = free
 
--- what it leaves of a record and two buffers, and answers: what the promise of the call's code says
+-- what it leaves of a memory, and answers: what the promise of the call's code says
 abbrev pub step : (q : Call) → Memory → After (Result q)
-step q m = onBytes (perform q) (m .store) (m .dataBytes) (m .commitBytes)
+step q m = onMemory (perform q) m

@@ -8,7 +8,7 @@ use Rattle.spec.specs.Choice.{if_then_else_}
 use Rattle.spec.specs.declared.Form.{Form}
 use Rattle.spec.specs.declared.Form.the-variants.{SetUp, Begin, Read, Write, Advance, Abandon, Trim, Free, Other}
 use Rattle.spec.specs.Answers.{Answer, Answered, Refused, badSetUp, noForm}
-use Rattle.spec.specs.Image.{empty}
+use Rattle.spec.specs.Image.{noVersions, empty}
 use Rattle.spec.specs.Rows.{dataWidth, commitWidth}
 use Rattle.spec.specs.Bytes.{mostRows, storeOf, Memory, memoryOf, After, setUp}
 use Rattle.spec.specs.Run as call
@@ -16,11 +16,12 @@ use Rattle.spec.specs.Run.{Call, Result, step}
 use Rattle.spec.specs.Values.{valueFor}
 use Rattle.spec.specs.Text.{formOf, valueIn, freeText, droppedText, begunText, readingText, progressText, refusedText, answerText, lineText}
 
--- The program has the record and two buffers of 24 × 1,024 and 8 × 1,024 bytes: the store's are the first 24 × rows and 8 × rows bytes of them.
+-- The program has the record, two buffers of 24 × 1,024 and 8 × 1,024 bytes, of which the store's are the first 24 × rows and 8 × rows bytes, and the
+-- version table.
 
 -- "Before a set-up the store has 0 rows"
 unfoldable pub initial : Memory
-initial = memoryOf (storeOf (empty 0 0 0)) (replicate (dataWidth * mostRows) 0) (replicate (commitWidth * mostRows) 0)
+initial = memoryOf (storeOf (empty 0 0 0)) (replicate (dataWidth * mostRows) 0) (replicate (commitWidth * mostRows) 0) noVersions
 
 -- what a line leaves and prints
 pub record Response : Type 0 where
@@ -32,11 +33,12 @@ responds m t = record { memory = m; text = t }
 
 -- the part of the program's memory that belongs to its store
 abbrev pub front : Memory → Memory
-front m = memoryOf (m .store) (take (dataWidth * m .store .rows) (m .dataBytes)) (take (commitWidth * m .store .rows) (m .commitBytes))
+front m = memoryOf (m .store) (take (dataWidth * m .store .rows) (m .dataBytes)) (take (commitWidth * m .store .rows) (m .commitBytes)) (m .versions)
 
 -- the program's memory, where its first r rows have become a store's memory m′
 abbrev pub behind : ℕ → Memory → Memory → Memory
-behind r m m′ = memoryOf (m′ .store) (m′ .dataBytes ++ drop (dataWidth * r) (m .dataBytes)) (m′ .commitBytes ++ drop (commitWidth * r) (m .commitBytes))
+behind r m m′ =
+    memoryOf (m′ .store) (m′ .dataBytes ++ drop (dataWidth * r) (m .dataBytes)) (m′ .commitBytes ++ drop (commitWidth * r) (m .commitBytes)) (m′ .versions)
 
 -- the text of what a call gives; a read's value is taken from the data buffer d
 abbrev pub resultText : (q : Call) → List ℕ → Result q → List ℕ

@@ -1,4 +1,4 @@
--- What a call tells a program in C: numbers for its answer, with the record and each byte of both buffers.
+-- What a call tells a program in C: numbers for its answer, with the record, each byte of both buffers and each entry of the version table.
 -- Assumes nothing.
 use Prim.Native.Nat.{ℕ}
 use mathlib.Core.Path.{_≡_}
@@ -11,7 +11,7 @@ use Rattle.spec.specs.declared.Progress.the-variants.{Stage, Waiting, Co
 use Rattle.spec.specs.Answers.{Answer, Answered, Refused}
 use Rattle.spec.specs.Image.{Image}
 use Rattle.spec.specs.Calls.{Outcome}
-use Rattle.spec.specs.Bytes.{Memory, After, onBytes, setUp}
+use Rattle.spec.specs.Bytes.{Memory, After, onMemory, setUp}
 
 -- ---- an answer as numbers
 
@@ -51,7 +51,7 @@ inNumbers g (Refused r) = toldOf r 0 0
 
 -- ---- the promise of a call for C
 
--- all that a call leaves: the record and each byte of both buffers, and the numbers
+-- all that a call leaves: the memory, and the numbers
 pub record Leaving : Type 0 where
   pub memory : Memory
   pub told : Told
@@ -64,7 +64,7 @@ toldAfter g o = leaving (o .memory) (inNumbers g (o .answer))
 
 -- The promise of a call: it has found the memory m, and left m′ and told t, and so does its definition f, with its answer in numbers.
 abbrev pub Tells : {A : Type 0} → (A → Told) → (Image → Outcome A) → Memory → Memory → Told → Type 0
-Tells g f m m′ t = leaving m′ t ≡ toldAfter g (onBytes f (m .store) (m .dataBytes) (m .commitBytes))
+Tells g f m m′ t = leaving m′ t ≡ toldAfter g (onMemory f m)
 
 -- the promise of a set-up, which was given the buffers d and c
 abbrev pub TellsSetUp : List ℕ → List ℕ → ℕ → ℕ → Memory → Told → Type 0

@@ -19,6 +19,9 @@ pub const TOP: u32 = 4294967295;
 // Cells are numbered 0 to 1,023.
 pub const CELLS: u32 = 1024;
 
+// The version table has one entry for each of them.
+pub const VERSIONS: usize = 1024;
+
 // The record: document 01, "What the store holds". A client has an open transaction where its number is not 0.
 pub struct Store {
     // rows of the store, and the cell limit
@@ -103,6 +106,13 @@ pub enum AdvanceAnswer {
 // What a call hands back: the record and the answer.
 pub struct FigureTurn {
     pub store: Store,
+    pub answer: FigureAnswer,
+}
+
+// What a set-up hands back: the record, the version table and the answer.
+pub struct SetUpTurn {
+    pub store: Store,
+    pub versions: [u32; VERSIONS],
     pub answer: FigureAnswer,
 }
 

@@ -12,9 +12,9 @@ use Rattle.record.specs.declared.Head.{Head}
 use Rattle.record.specs.Inner.{whole, Lent}
 
 -- What removing a client's data rows and closing it leaves of numbers h, columns and the data buffer, for the promise of `remove`, which Abandon
--- and the check share; whatever the committed buffer c is.
+-- and the check share; whatever the committed buffer c and the version table v are.
 pub record Removed (k : ℕ) (h : Head) (cols : Both Clients Clients) (rows : Lent) (h′ : Head) : Type 0 where
-  pub store : (c : List ℕ) → whole h′ (cols .exit) ≡ storeOf (removed k (decode (whole h (cols .entry)) (rows .entry .now) c))
-  pub bytes : (c : List ℕ)
-      → rows .exit .now ≡ layout dataWidth (h .used) (removed k (decode (whole h (cols .entry)) (rows .entry .now) c) .dataRows) (rows
-      .entry .now)
+  pub store : (c v : List ℕ) → whole h′ (cols .exit) ≡ storeOf (removed k (decode (whole h (cols .entry)) (rows .entry .now) c v))
+  pub bytes : (c v : List ℕ)
+      → rows .exit .now
+      ≡ layout dataWidth (h .used) (removed k (decode (whole h (cols .entry)) (rows .entry .now) c v) .dataRows) (rows .entry .now)

@@ -9,6 +9,6 @@ use Rattle.spec.specs.Image.{Image}
 use Rattle.spec.specs.Calls.{Outcome}
 use Rattle.spec.specs.Bytes.{memoryOf, Performs}
 
-pub by-value : {A : Type 0} (f : Image → Outcome A) {s t s′ t′ : Store} (d c : List ℕ) {d′ c′ : List ℕ} {a : Answer A} → s ≡ t → s′ ≡ t′
-    → Performs f (memoryOf s d c) (memoryOf s′ d′ c′) a → Performs f (memoryOf t d c) (memoryOf t′ d′ c′) a
-by-value f d c e g r = rw (← e, ← g) r
+pub by-value : {A : Type 0} (f : Image → Outcome A) {s t s′ t′ : Store} (d c v : List ℕ) {d′ c′ v′ : List ℕ} {a : Answer A} → s ≡ t → s′ ≡ t′
+    → Performs f (memoryOf s d c v) (memoryOf s′ d′ c′ v′) a → Performs f (memoryOf t d c v) (memoryOf t′ d′ c′ v′) a
+by-value f d c v e g r = rw (← e, ← g) r

@@ -19,9 +19,10 @@ use Rattle.spec.specs.Bytes.{countersIn, clientsIn, recordOf, decode, storeOf, 
 use Rattle.spec.proofs.Ends.{ends}
 use Rattle.record.specs.Inner.{shortNumber}
 
-module _ (s : Store) (d c : List ℕ) where
-  pub trim-ends : (l n m : ℕ) (d′ c′ : List ℕ) → l ≡ low (decode s d c) → Trimmed l (s .used) (s .entries) d c d′ c′ n m
-      → afterOf (recordOf (s .rows) (s .limit) (countersIn s) (clientsIn s) n m) d′ c′ (Answered (s .used - n)) ≡ encode s d c (trim (decode s d c))
+module _ (s : Store) (d c v : List ℕ) where
+  pub trim-ends : (l n m : ℕ) (d′ c′ : List ℕ) → l ≡ low (decode s d c v) → Trimmed l (s .used) (s .entries) d c d′ c′ n m
+      → afterOf (recordOf (s .rows) (s .limit) (countersIn s) (clientsIn s) n m) d′ c′ v (Answered (s .used - n))
+      ≡ encode s d c (trim (decode s d c v))
   unfolding trim trimmedTo decode storeOf
   trim-ends l n m d′ c′ e t =
       rw (← e)

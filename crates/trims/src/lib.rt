@@ -23,7 +23,8 @@ fn trim_by(h: Head, rows: &mut [u8], commits: &mut [u8], lowest: u32) -> FigureR
     requires { ⌜ commitWidth * h .entries ≤ length (now commits) ⌝ }
     requires { ⌜ h .entries ≤ 1024 ⌝ }
     ensures { λ r. ⌜ ((g n s q m b w : List ℕ)
-        → lowest ≡ low (decode (whole h (clientsOf g n s q m b w)) (now (rows .entry)) (now (commits .entry)))
+        → ((v : List ℕ)
+        → lowest ≡ low (decode (whole h (clientsOf g n s q m b w)) (now (rows .entry)) (now (commits .entry)) v))
         → Transforms trim h
         (columns (unseen g) (unseen n) (unseen s) (unseen q) (unseen m) (unseen b) (unseen w)) rows commits
         (r .head) (figureOf (r .answer))) ⌝ }

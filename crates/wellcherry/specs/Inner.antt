@@ -8,7 +8,7 @@ use Rattle.spec.specs.Image.{Clients, Image}
 use Rattle.spec.specs.Calls.{Outcome}
 use Rattle.spec.specs.Told.{Told, Tells, TellsSetUp}
 use Rattle.record.specs.declared.Head.{Head}
-use Rattle.record.specs.Inner.{Lent, memoryFound, memoryLeft}
+use Rattle.record.specs.Inner.{Lent, unseen, memoryFound, memoryLeft}
 
 -- the eight numbers of a record, one behind the other
 unfoldable pub headIn : List ℕ → Head
@@ -23,10 +23,14 @@ headIn l = record {
   entries = getD l 7 0;
 }
 
--- the call has told t, and left what its definition f says of what it has found: numbers, columns and buffers
+-- the call has told t, and left what its definition f says of what it has found: numbers, columns, buffers and the version table v
+abbrev pub TellsWith : {A : Type 0} → (A → Told) → (Image → Outcome A) → Lent → Both Clients Clients → Lent → Lent → Lent → Told → Type 0
+TellsWith g f n k d c v t = Tells g f (memoryFound (headIn (n .entry .now)) k d c v) (memoryLeft (headIn (n .exit .now)) k d c v) t
+
+-- so has one that is not lent the version table, with every such table, which stays
 abbrev pub TellsOn : {A : Type 0} → (A → Told) → (Image → Outcome A) → Lent → Both Clients Clients → Lent → Lent → Told → Type 0
-TellsOn g f n k d c t = Tells g f (memoryFound (headIn (n .entry .now)) k d c) (memoryLeft (headIn (n .exit .now)) k d c) t
+TellsOn g f n k d c t = (v : List ℕ) → TellsWith g f n k d c (unseen v) t
 
 -- a set-up has told t
-abbrev pub TellsNew : List ℕ → List ℕ → ℕ → ℕ → Lent → Both Clients Clients → Lent → Lent → Told → Type 0
-TellsNew d c w l n k x y t = TellsSetUp d c w l (memoryLeft (headIn (n .exit .now)) k x y) t
+abbrev pub TellsNew : List ℕ → List ℕ → ℕ → ℕ → Lent → Both Clients Clients → Lent → Lent → Lent → Told → Type 0
+TellsNew d c w l n k x y v t = TellsSetUp d c w l (memoryLeft (headIn (n .exit .now)) k x y v) t

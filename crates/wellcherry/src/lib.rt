@@ -1,5 +1,6 @@
 // The eight calls for programs in C, in libwellcherry.a; c/wellcherry.h declares them. The record stays where the caller
-// holds it: its eight numbers are lent, and its arrays by client, a column each. A buffer is a pointer and a length.
+// holds it: its eight numbers are lent, and its arrays by client, a column each. A buffer is a pointer and a length, and
+// so is the version table for Read.
 // None asks anything of its caller. What each leaves and tells is defined in the crate spec: specs/Told.antt.
 ghost use mathlib.Core.Path.{_≡_};
 ghost use mathlib.Core.List.{List};
@@ -8,10 +9,11 @@ ghost use Rattle.spec.specs.Calls.{abandon, begin, free, read, trim, write};
 ghost use Rattle.spec.specs.Steps.{advance};
 ghost use Rattle.spec.specs.Told.{toldOf, figureTold, beginTold, readTold, advanceTold};
 ghost use Rattle.record.specs.Inner.{columns, unseen};
-ghost use Rattle.wellcherry.specs.Inner.{headIn, TellsOn, TellsNew};
+ghost use Rattle.wellcherry.specs.Inner.{headIn, TellsOn, TellsWith, TellsNew};
 use record::Head;
 use spec::CLIENTS;
 use spec::Set;
+use spec::VERSIONS;
 
 // How many numbers a record has beside its arrays.
 const HEAD: usize = 8;
@@ -80,7 +82,7 @@ fn put_head(head: &mut [u32; HEAD], h: Head)
 
 // ---- the calls
 
-// Set-up: a new record in the place of whatever the columns hold.
+// Set-up: a new record and a new version table in the place of whatever the columns and the table hold.
 #[no_mangle]
 pub extern "C" fn wellcherry_call_set_up(
     head: &mut [u32; HEAD],
@@ -93,11 +95,12 @@ pub extern "C" fn wellcherry_call_set_up(
     commitWaits: &mut [Set; CLIENTS],
     rows: &mut [u8],
     commits: &mut [u8],
+    versions: &mut [u32; VERSIONS],
     first: u32,
     limit: u32,
 ) -> FigureGiven
     ensures { λ r. ⌜ TellsNew (now (rows .entry)) (now (commits .entry)) first limit head
-        (columns stage number snapshot request commit requestWaits commitWaits) rows commits
+        (columns stage number snapshot request commit requestWaits commitWaits) rows commits versions
         (toldOf (r .refusal) (r .figure) 0) ⌝ }
 {
     let done = starts::set_up_in(
@@ -110,6 +113,7 @@ pub extern "C" fn wellcherry_call_set_up(
         commitWaits,
         rows,
         commits,
+        versions,
         first,
         limit,
     );
@@ -166,7 +170,8 @@ pub extern "C" fn wellcherry_call_begin(
     }
 }
 
-// Read: where the value stands. It is lent what it looks at, and changes nothing.
+// Read: where the value stands. It is lent what it looks at, and changes nothing but the cell's entry in the version
+// table.
 #[no_mangle]
 pub extern "C" fn wellcherry_call_read(
     head: &[u32; HEAD],
@@ -175,11 +180,12 @@ pub extern "C" fn wellcherry_call_read(
     snapshot: &[u32; CLIENTS],
     rows: &[u8],
     commits: &[u8],
+    versions: &mut [u32],
     client: u32,
     cell: u32,
 ) -> ReadGiven
-    ensures { λ r. ⌜ ((q m b w : List ℕ) → TellsOn readTold (read client cell) head
-        (columns stage number snapshot (unseen q) (unseen m) (unseen b) (unseen w)) rows commits
+    ensures { λ r. ⌜ ((q m b w : List ℕ) → TellsWith readTold (read client cell) head
+        (columns stage number snapshot (unseen q) (unseen m) (unseen b) (unseen w)) rows commits versions
         (toldOf (r .refusal) (r .found) (r .row))) ⌝ }
 {
     let answer = reads::read(
@@ -189,6 +195,7 @@ pub extern "C" fn wellcherry_call_read(
         snapshot,
         rows,
         commits,
+        versions,
         client,
         cell,
     );

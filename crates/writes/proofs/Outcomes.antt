@@ -38,19 +38,19 @@ own-rows Missing n o m e g = (refl, cc)
 pub found-below : (t x n : ℕ) (d : List ℕ) (j : ℕ) → find (isOwn t x) 0 (rowsIn 24 n d) ≡ At j → j < n
 found-below t x n d j e = omega (arith, find-below (isOwn t x) 0 j (rowsIn 24 n d) e, length-rows 24 n d)
 
-module _ (s : Store) (d c : List ℕ) (k x : ℕ) (h : k < clients) (g : x < 1024) (n : getD (s .number) k 0 ≡ 0 → ⊥) (t : getD (s .stage) k
+module _ (s : Store) (d c v : List ℕ) (k x : ℕ) (h : k < clients) (g : x < 1024) (n : getD (s .number) k 0 ≡ 0 → ⊥) (t : getD (s .stage) k
     0 ≡ 0) where
   -- where every test is passed, what is stored, by the row that was looked for
-  pub write-stores : (v : List ℕ) (f : Found) (o : After ℕ) → fits s (length d) (length c) ≡ true → length v ≡ 16
+  pub write-stores : (w : List ℕ) (f : Found) (o : After ℕ) → fits s (length d) (length c) ≡ true → length w ≡ 16
       → f ≡ find (isOwn (getD (s .number) k 0) x) 0 (rowsIn 24 (s .used) d)
-      → o ≡ encode s d c (stored f k x v (decode s d c)) → o ≡ onBytes (write k x v) s d c
+      → o ≡ encode s d c (stored f k x w (decode s d c v)) → o ≡ onBytes (write k x w) s d c v
   unfolding write decode
-  write-stores v f o p l e q =
-      goes s d c (write k x v) {o = o} p
+  write-stores w f o p l e q =
+      goes s d c v (write k x w) {o = o} p
       (rw (
         lt-leb clients k h,
         lt-leb 1024 x g,
-        eq-eqb (length v) 16 l,
+        eq-eqb (length w) 16 l,
         ne-eqb (getD (s .number) k 0) 0 n,
         eq-eqb (getD (s .stage) k 0) 0
             t,

@@ -44,16 +44,16 @@ impl Call {
     }
 
     pub fn by_library(&self, house: &mut House) -> Answer<Given> {
-        let House { record, data, committed } = house;
+        let House { record, versions, data, committed } = house;
         match *self {
             Call::SetUp(first, limit) => {
-                record.set_up(data, committed, first, limit).map(Given::Figure)
+                record.set_up(data, committed, versions, first, limit).map(Given::Figure)
             }
             Call::Begin(client) => record
                 .begin(data, committed, client)
                 .map(|(number, snapshot)| Given::Begun { number, snapshot }),
             Call::Read(client, cell) => {
-                record.read_row(data, committed, client, cell).map(Given::Row)
+                record.read_row(data, committed, versions, client, cell).map(Given::Row)
             }
             Call::Write(client, cell, ref value) => {
                 record.write(data, committed, client, cell, value).map(Given::Figure)
@@ -67,14 +67,18 @@ impl Call {
 
     pub fn by_hand(&self, house: &mut House) -> Answer<Given> {
         let mut record = to_hand(&house.record);
-        let given = self.on_hand_record(&mut record, &mut house.data, &mut house.committed);
+        let mut versions = Versions(house.versions);
+        let given =
+            self.on_hand_record(&mut record, &mut versions, &mut house.data, &mut house.committed);
         house.record = from_hand(&record);
+        house.versions = versions.0;
         given.map_err(|refusal| refusal as u32)
     }
 
     fn on_hand_record(
         &self,
         record: &mut baseline::Record,
+        versions: &mut Versions,
         data: &mut [u8],
         committed: &mut [u8],
     ) -> Result<Given, Refusal> {
@@ -82,14 +86,14 @@ impl Call {
             Call::SetUp(first, limit) => {
                 let made = baseline::Record::set_up(data, committed, first, limit);
                 *record = made.unwrap_or(baseline::Record::NONE);
+                *versions = Versions::NEW;
                 made.map(|made| Given::Figure(made.rows))
             }
             Call::Begin(client) => record
                 .begin(data, committed, client)
                 .map(|begun| Given::Begun { number: begun.number, snapshot: begun.snapshot }),
             Call::Read(client, cell) => {
-                let mut versions = Versions::NEW; // of no size before ticket 3
-                let found = record.read(&mut versions, data, committed, client, cell)?;
+                let found = record.read(versions, data, committed, client, cell)?;
                 Ok(Given::Row(found.map(|found| row_of(data, found.value))))
             }
             Call::Write(client, cell, ref value) => {

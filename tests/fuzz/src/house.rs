@@ -1,12 +1,13 @@
 //! The memory of a house, and damage to it.
 
 use crate::chance::Chance;
-use wellcherry::{Record, CLIENTS, COMMITTED_ROW, DATA_ROW};
+use wellcherry::{Record, Versions, CELLS, CLIENTS, COMMITTED_ROW, DATA_ROW};
 
 /// All that a call finds and leaves.
 #[derive(Clone, PartialEq)]
 pub struct House {
     pub record: Record,
+    pub versions: Versions,
     pub data: Vec<u8>,
     pub committed: Vec<u8>,
 }
@@ -24,7 +25,7 @@ impl House {
         };
         let (data, committed) = (length(DATA_ROW), length(COMMITTED_ROW));
         let (data, committed) = (vec![0xa5; data], vec![0xa5; committed]);
-        let mut house = House { record: Record::NONE, data, committed };
+        let mut house = House { record: Record::NONE, versions: [0xa5; CELLS], data, committed };
         house.damage_clients(chance);
         house
     }
@@ -50,6 +51,9 @@ impl House {
         }
         if chance.one_in(60) {
             self.make_up_rows(chance);
+        }
+        if chance.one_in(60) {
+            self.damage_entries(chance);
         }
         if chance.one_in(60) {
             self.close_all(chance);
@@ -122,6 +126,16 @@ impl House {
             };
             bytes[..4].copy_from_slice(&number.to_le_bytes());
             bytes[4..].copy_from_slice(&tag.to_le_bytes());
+        }
+    }
+
+    /// Entries of the cells that are in use most often, that no reads led to.
+    fn damage_entries(&mut self, chance: &mut Chance) {
+        let cells = 1 + chance.below(CELLS as u32) as usize;
+        for entry in &mut self.versions[..cells] {
+            if chance.one_in(3) {
+                *entry = if chance.one_in(4) { chance.odd() } else { chance.below(80) };
+            }
         }
     }
 

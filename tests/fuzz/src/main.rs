@@ -1,7 +1,7 @@
 //! `differ CALLS [SEED]`: the library against the hand-written store of bench/baseline, each
 //! on its own copy of one house. Half of the houses grow from their set-up, the others are
 //! damaged time and again. After each call the answers are compared, all fields of the
-//! record and every byte of both buffers.
+//! record, every entry of the version table and every byte of both buffers.
 
 mod call;
 mod chance;

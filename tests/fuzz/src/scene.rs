@@ -4,7 +4,7 @@ use crate::call::{Call, Given};
 use crate::chance::Chance;
 use crate::house::House;
 use crate::met::Met;
-use wellcherry::{Answer, Record, CLIENTS};
+use wellcherry::{Answer, Record, CELLS, CLIENTS};
 
 /// The one difference that is known. Begin leaves a client with its number and its
 /// snapshot, and zero in all else (`opened` in crates/spec/specs/Image.antt). The
@@ -111,6 +111,10 @@ fn compare(
     }
     if house.record != by_hand.record {
         return Err(format!("the library leaves {:?}\nby hand {:?}", house.record, by_hand.record));
+    }
+    if let Some(cell) = (0..CELLS).find(|&cell| house.versions[cell] != by_hand.versions[cell]) {
+        let (ours, theirs) = (house.versions[cell], by_hand.versions[cell]);
+        return Err(format!("the entry of cell {cell} is {ours}, by hand {theirs}"));
     }
     compare_bytes("data", &house.data, &by_hand.data)?;
     compare_bytes("committed", &house.committed, &by_hand.committed)

@@ -1,5 +1,5 @@
-//! The library and the model side by side: after every form the answer, the whole record and
-//! every byte of both buffers have to be alike.
+//! The library and the model side by side: after every form the answer, the whole record, every
+//! entry of the version table and every byte of both buffers have to be alike.
 
 use crate::desk::Desk;
 use crate::grammar;
@@ -10,7 +10,7 @@ use model::forms::{answer_text, form_text, lines, Form};
 use model::session::Session;
 use model::store::{QueueRow, Store};
 use std::collections::BTreeSet;
-use wellcherry::{Head, Record, CLIENTS};
+use wellcherry::{Head, Record, Versions, CELLS, CLIENTS};
 
 /// The record that the model's store stands for.
 fn record_of(store: &Store) -> Record {
@@ -50,7 +50,8 @@ fn set_of(list: &BTreeSet<u32>, queue: &[QueueRow]) -> u64 {
 /// The store as the model has it, for the library.
 pub fn desk_of(store: &Store) -> Desk {
     let (data, committed) = (store.data_bytes(), store.committed_bytes());
-    Desk { record: record_of(store), data, committed }
+    let versions = store.versions[..].try_into().expect("an entry for each cell");
+    Desk { record: record_of(store), versions, data, committed }
 }
 
 /// The first thing in which a record with its buffers is not what is due.
@@ -59,6 +60,7 @@ pub fn difference(ours: &Desk, due: &Desk) -> Option<String> {
         return None;
     }
     different_word(&ours.record, &due.record)
+        .or_else(|| different_entry(&ours.versions, &due.versions))
         .or_else(|| different_byte("data", &ours.data, &due.data))
         .or_else(|| different_byte("committed", &ours.committed, &due.committed))
 }
@@ -84,6 +86,11 @@ fn columns(record: &Record, k: usize) -> [u64; 7] {
     let [stage, number, snapshot, request, commit] = words.map(u64::from);
     let (waits, commit_waits) = (record.request_waits[k], record.commit_waits[k]);
     [stage, number, snapshot, request, commit, waits, commit_waits]
+}
+
+fn different_entry(ours: &Versions, due: &Versions) -> Option<String> {
+    let cell = (0..CELLS).find(|cell| ours[*cell] != due[*cell])?;
+    Some(format!("the entry of cell {cell}: {}, not {}", ours[cell], due[cell]))
 }
 
 fn different_byte(name: &str, ours: &[u8], due: &[u8]) -> Option<String> {

@@ -1,11 +1,11 @@
-//! A record, its two buffers and the calls of the library on them, as a program of lines. The
-//! forms are the model's; every answer is the library's, and what is shown is read here from the
-//! record and the bytes, by document 01.
+//! A record, its version table, its two buffers and the calls of the library on them, as a program of
+//! lines. The forms are the model's; every answer is the library's, and what is shown is read here
+//! from the record, the table and the bytes, by document 01.
 
 use crate::grammar;
 use model::calls::{Answer, Call, Refusal};
 use model::forms::{answer_text, hex, Form, Put, Show, LINE_REFUSED};
-use wellcherry::{Head, Progress, Record, CLIENTS, COMMITTED_ROW, DATA_ROW};
+use wellcherry::{Head, Progress, Record, Versions, CELLS, CLIENTS, COMMITTED_ROW, DATA_ROW};
 
 /// No store has more rows.
 const MOST_ROWS: usize = 1_024;
@@ -33,15 +33,19 @@ pub const OLD_RECORD: Record = Record {
     commit_waits: [u64::MAX; CLIENTS],
 };
 
+/// A version table of no set-up, with no zero in it.
+pub const OLD_VERSIONS: Versions = [OLD; CELLS];
+
 /// A buffer of so many bytes, none of them 0.
 pub fn old_bytes(length: usize) -> Vec<u8> {
     vec![OLD as u8; length]
 }
 
-/// A record and the buffers that it is used with.
+/// A record, the version table and the buffers that it is used with.
 #[derive(Clone, PartialEq, Eq)]
 pub struct Desk {
     pub record: Record,
+    pub versions: Versions,
     pub data: Vec<u8>,
     pub committed: Vec<u8>,
 }
@@ -49,7 +53,8 @@ pub struct Desk {
 /// Before a set-up.
 impl Default for Desk {
     fn default() -> Desk {
-        Desk { record: Record::NONE, data: Vec::new(), committed: Vec::new() }
+        let (data, committed) = (Vec::new(), Vec::new());
+        Desk { record: Record::NONE, versions: [0; CELLS], data, committed }
     }
 }
 
@@ -87,23 +92,30 @@ impl Desk {
         let rows = rows.min(MOST_ROWS + 1);
         let mut new = Desk {
             record: OLD_RECORD,
+            versions: OLD_VERSIONS,
             data: old_bytes(rows * DATA_ROW),
             committed: old_bytes(rows * COMMITTED_ROW),
         };
-        let figure = new.record.set_up(&mut new.data, &mut new.committed, first, limit);
+        let figure = new.set_up_in_place(first, limit);
         if figure.is_ok() {
             *self = new;
         }
         told(figure, Answer::Free)
     }
 
+    /// A set-up of whatever memory there is.
+    pub fn set_up_in_place(&mut self, first: u32, limit: u32) -> Result<u32, u32> {
+        let Desk { record, versions, data, committed } = self;
+        record.set_up(data, committed, versions, first, limit)
+    }
+
     /// A call of the library.
     pub fn call(&mut self, call: &Call) -> Answer {
-        let Desk { record, data, committed } = self;
+        let Desk { record, versions, data, committed } = self;
         match call {
             Call::Begin { client } => told(record.begin(data, committed, *client), began),
             Call::Read { client, cell } => {
-                told(record.read(data, committed, *client, *cell), found)
+                told(record.read(data, committed, versions, *client, *cell), found)
             }
             Call::Write { client, cell, value } => {
                 told(record.write(data, committed, *client, *cell, value), Answer::Free)
@@ -190,7 +202,10 @@ impl Desk {
                 head.last = *commit;
                 true
             }
-            Put::Version { .. } => not_landed(),
+            Put::Version { cell, entry } => {
+                self.versions[*cell as usize] = *entry;
+                true
+            }
         }
     }
 
@@ -224,7 +239,11 @@ impl Desk {
                 let told = |row: &[u8]| format!(" ({} {})", number(&row[..4]), number(&row[4..]));
                 rows.take(house.head.entries as usize).map(told).collect()
             }
-            Show::Counts | Show::Versions | Show::Names => not_landed(),
+            Show::Versions => {
+                let set = self.versions.iter().enumerate().filter(|(_, entry)| **entry > 0);
+                set.map(|(cell, entry)| format!(" ({cell} {entry})")).collect()
+            }
+            Show::Counts | Show::Names => not_landed(),
         };
         format!("({}{})", show.keyword(), parts.concat())
     }

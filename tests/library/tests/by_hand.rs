@@ -11,6 +11,7 @@ use model::rng::Rng;
 use model::rows::regular;
 use model::store::{CommittedRow, DataRow, QueueRow, Store, Transaction};
 use std::collections::BTreeSet;
+use wellcherry::CELLS;
 
 // ------------------------------------------------------------------- disorder, by name
 
@@ -74,7 +75,12 @@ fn made(by_hand: &ByHand, spare: usize, first: u32) -> String {
 /// Readers at an older and a newer snapshot, writers up to the check and beyond, trims between.
 fn calls(last: u32) -> String {
     let reads = |client: u32| -> String {
-        [0, 1, 2, 1_023].map(|cell| format!("(read {client} {cell})\n")).concat()
+        let reads = [0, 1, 2, 1_023].map(|cell| format!("(read {client} {cell})\n")).concat();
+        reads.clone() + "(versions)\n" + &reads
+    };
+    // entries that no reads led to: below, at and above the snapshots
+    let entries = |first: u32| -> String {
+        [0, 1, 2].map(|cell| format!("(put-version {cell} {})\n", first + 2 * cell)).concat()
     };
     let writes = |client: u32| -> String {
         [0, 1].map(|cell| format!("(write {client} {cell} {:032x})\n", 7 * client + cell)).concat()
@@ -82,10 +88,10 @@ fn calls(last: u32) -> String {
     let advances = |client: u32, times: usize| format!("(advance {client})\n").repeat(times);
     let trim = "(free)\n(trim)\n(data)\n(committed)\n(trim)\n(free)\n";
     [
-        format!("(put-last {last})\n(begin 0)\n{}", reads(0)),
+        format!("(put-last {last})\n(begin 0)\n{}{}{}", reads(0), entries(1), reads(0)),
         format!("(put-last 9)\n(begin 1)\n{}{}", reads(1), writes(1)),
         advances(1, 3),
-        trim.to_string() + &reads(0) + &reads(1),
+        trim.to_string() + &reads(0) + &reads(1) + &entries(0) + &reads(1) + &entries(4) + &reads(0),
         format!("(put-last {last})\n(begin 2)\n{}{}", writes(2), advances(2, 14)),
         "(abandon 0)\n".to_string() + trim,
         advances(1, 11) + &advances(2, 11),
@@ -137,6 +143,9 @@ fn made_up(rng: &mut Rng) -> Store {
     store.limit = rng.pick(&[0, 1, 2, 3, 8, 64, 65, u32::MAX]).expect("a limit");
     store.w = rng.pick(&[TAGS, TAGS + 5, u32::MAX - 1, u32::MAX]).expect("a number");
     (store.r, store.c, store.last_commit) = (any_number(rng), any_number(rng), any_number(rng));
+    if rng.one_in(2) {
+        store.versions.fill_with(|| any_number(rng));
+    }
     let any_value = |rng: &mut Rng| std::array::from_fn(|_| rng.between(0, 255) as u8);
     for _ in 0..rng.between(0, rows) {
         let cell = any_cell(rng);
@@ -258,6 +267,8 @@ impl Soil {
 #[test]
 fn records_made_up() {
     let (mut rng, mut met) = (Rng::new(11), Coverage::under(grammar()));
+    // Reads that leave another entry, and reads that an entry keeps from what a full look finds.
+    let (mut noted, mut bounded) = (0, 0);
     for round in 0..250_000 {
         let mut store = made_up(&mut rng);
         let mut soil = Soil::of(&store);
@@ -266,13 +277,20 @@ fn records_made_up() {
             let before = store.clone();
             let call = any_call(&mut rng, &store);
             let stage = call.client().and_then(|client| store.stage(client));
+            let mut full = Desk { versions: [0; CELLS], ..desk.clone() };
             let (answer, due) = (desk.call(&call), store.call(&call));
+            if matches!(call, Call::Read { .. }) {
+                noted += u32::from(store.versions != before.versions);
+                bounded += u32::from(full.call(&call) != answer);
+            }
             assert_eq!(answer, due, "store {round}, {call:?} on {before:?}");
             let found = difference(&desk, &soil.on(&store));
             assert_eq!(found, None, "store {round}, {call:?} on {before:?}");
             met.note(&Form::Call(call), stage, &answer, &store);
         }
     }
+    assert!(noted > 1_000, "{noted}");
+    assert!(bounded > 1_000, "{bounded}");
     // No record here is unfit: 2 is a number used up or a full committed buffer.
     let refusals = ["02 of advance", "08 of begin", "09 of write", "10 of write", "12 of write"];
     let refusals = refusals.iter().map(|refusal| format!("refusal {refusal}"));

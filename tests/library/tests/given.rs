@@ -3,7 +3,7 @@
 
 use library::desk::{old_bytes, OLD_RECORD};
 use wellcherry::raw::{self, AdvanceGiven, BeginGiven, FigureGiven};
-use wellcherry::{Record, COMMITTED_ROW, DATA_ROW};
+use wellcherry::{Record, CELLS, COMMITTED_ROW, DATA_ROW};
 
 const ROWS: usize = 2;
 
@@ -43,7 +43,7 @@ fn advanced(given: AdvanceGiven) -> (u32, [u32; 2]) {
 fn house() -> (Record, Vec<u8>, Vec<u8>) {
     let (mut record, value) = (OLD_RECORD, [9; 16]);
     let (mut data, mut committed) = (old_bytes(ROWS * DATA_ROW), old_bytes(ROWS * COMMITTED_ROW));
-    record.set_up(&mut data, &mut committed, 7, 0).expect("a set-up");
+    record.set_up(&mut data, &mut committed, &mut [1; CELLS], 7, 0).expect("a set-up");
     record.begin(&data, &committed, 0).expect("a begin");
     record.write(&mut data, &committed, 0, 5, &value).expect("a write");
     (record, data, committed)
@@ -51,8 +51,9 @@ fn house() -> (Record, Vec<u8>, Vec<u8>) {
 
 /// What each call hands back: trim, free, begin, then those that need an open client.
 fn all_given(client: u32, length: usize) -> [(u32, [u32; 2]); 7] {
-    let value = [1; 16];
-    let read = given!(wellcherry_call_read [stage number snapshot] length client, 5);
+    let (value, mut versions) = ([1; 16], [0; CELLS]);
+    let read = given!(wellcherry_call_read
+        [stage number snapshot] length versions.as_mut_ptr(), versions.len(), client, 5);
     [
         figure(given!(wellcherry_call_trim [stage number snapshot] length)),
         figure(given!(wellcherry_call_free [stage] length)),
@@ -78,10 +79,11 @@ fn refused_calls_hand_back_zeros() {
     assert_eq!(all_given(1, right)[3..], [refused(6); 4]);
 }
 
-/// A refused set-up too, and its record is all zeros.
+/// A refused set-up too, and its record and its version table are all zeros.
 #[test]
 fn a_refused_set_up() {
     let (mut record, mut data, mut committed) = house();
+    let mut versions = [1; CELLS];
     let given = unsafe {
         raw::wellcherry_call_set_up(
             &mut record.head,
@@ -96,10 +98,12 @@ fn a_refused_set_up() {
             data.len(),
             committed.as_mut_ptr(),
             committed.len(),
+            versions.as_mut_ptr(),
             0,
             0,
         )
     };
     assert_eq!(figure(given), (1, [0, 0]));
     assert_eq!(record, Record::NONE);
+    assert_eq!(versions, [0; CELLS]);
 }

@@ -2,12 +2,12 @@
 //! of its structs, and the library, which has no header but what it does to the memory it is lent.
 
 use library::beside::difference;
-use library::desk::{committed_row, data_row, Desk, OLD_RECORD};
+use library::desk::{committed_row, data_row, Desk, OLD_RECORD, OLD_VERSIONS};
 use std::mem::{offset_of, size_of};
 use std::path::Path;
 use std::process::Command;
 use wellcherry::raw::{AdvanceGiven, BeginGiven, FigureGiven, ReadGiven};
-use wellcherry::{Head, Progress, Record, CLIENTS, COMMITTED_ROW, DATA_ROW, VALUE, VALUE_AT};
+use wellcherry::{Head, Progress, Record, CELLS, CLIENTS, COMMITTED_ROW, DATA_ROW, VALUE, VALUE_AT};
 
 // ------------------------------------------------------------------- the header and the mirrors
 
@@ -37,6 +37,7 @@ fn size_of_field<S, F>(_: fn(&S) -> &F) -> usize {
 fn mirrors() -> String {
     let constants = [
         ("CLIENTS", CLIENTS),
+        ("CELLS", CELLS),
         ("VALUE", VALUE),
         ("DATA_ROW", DATA_ROW),
         ("COMMITTED_ROW", COMMITTED_ROW),
@@ -109,7 +110,8 @@ fn different_words(closed: usize) -> Record {
 fn a_begin_of_each_client() {
     for k in 0..CLIENTS {
         let (data, committed) = (vec![7; 4 * DATA_ROW], vec![7; 4 * COMMITTED_ROW]);
-        let mut desk = Desk { record: different_words(k), data, committed };
+        let (record, versions) = (different_words(k), OLD_VERSIONS);
+        let mut desk = Desk { record, versions, data, committed };
         let mut due = desk.clone();
         due.record.head.issued += 1;
         due.record.stage[k] = 0;
@@ -130,13 +132,19 @@ fn a_begin_of_each_client() {
 fn the_bytes_of_rows() {
     let value: [u8; VALUE] = std::array::from_fn(|at| 0xf0 + at as u8);
     let (mut record, data, committed) = (OLD_RECORD, &mut [1; 2 * DATA_ROW], &mut [1; 16]);
-    assert_eq!(record.set_up(data, committed, 0x0102_0304, 1), Ok(2));
+    let versions = &mut [1; CELLS];
+    assert_eq!(record.set_up(data, committed, versions, 0x0102_0304, 1), Ok(2));
+    assert_eq!(*versions, [0; CELLS]);
     assert_eq!(record.begin(data, committed, 63), Ok((0x0102_0304, 0)));
     assert_eq!(record.write(data, committed, 63, 0x0305, &value), Ok(1));
     for stage in 1..=13 {
         assert_eq!(record.advance(data, committed, 63), Ok(Progress::Stage(stage)));
     }
     assert_eq!(record.advance(data, committed, 63), Ok(Progress::Done(1)));
+    // A read of the next transaction leaves the commit in the entry of that cell alone.
+    assert_eq!(record.begin(data, committed, 0), Ok((0x0102_0305, 1)));
+    assert_eq!(record.read(data, committed, versions, 0, 0x0305), Ok(Some(&value[..])));
+    assert_eq!(*versions, std::array::from_fn(|cell| u32::from(cell == 0x0305)));
     let row = [4, 3, 2, 1, 5, 3, 0, 0].into_iter().chain(value).collect::<Vec<u8>>();
     assert_eq!(data[..], [&row[..], &[0; DATA_ROW]].concat());
     assert_eq!(*committed, [1, 0, 0, 0, 4, 3, 2, 1, 0, 0, 0, 0, 0, 0, 0, 0]);

@@ -2,12 +2,12 @@
 //! nothing changes.
 
 use library::beside::{desk_of, difference, Beside};
-use library::desk::{old_bytes, Desk, OLD_RECORD};
+use library::desk::{old_bytes, Desk, OLD_RECORD, OLD_VERSIONS};
 use library::landed;
 use model::calls::{Answer, Call, Refusal};
 use model::store::Store;
 use std::collections::BTreeSet;
-use wellcherry::{Record, COMMITTED_ROW, DATA_ROW};
+use wellcherry::{Record, CELLS, COMMITTED_ROW, DATA_ROW};
 
 const ROWS: usize = 6;
 const UNFIT: Answer = Answer::Refused(Refusal::Unfit);
@@ -51,7 +51,8 @@ fn calls() -> Vec<Call> {
 
 /// With a damage or wrong lengths, every call gets 2 and changes nothing.
 fn all_unfit(what: &str, record: &Record, data: &[u8], committed: &[u8]) {
-    let before = Desk { record: *record, data: data.to_vec(), committed: committed.to_vec() };
+    let (data, committed) = (data.to_vec(), committed.to_vec());
+    let before = Desk { record: *record, versions: OLD_VERSIONS, data, committed };
     for call in calls() {
         let mut desk = before.clone();
         assert_eq!(desk.call(&call), UNFIT, "{what}: {call:?}");
@@ -95,6 +96,25 @@ fn wrong_lengths() {
         }
     }
     all_unfit("buffers swapped", &desk.record, &desk.committed, &desk.data);
+}
+
+/// A Read that is lent a version table of another length gets 2 before all else, and no entry
+/// changes; with the right length it answers or refuses as it would.
+#[test]
+fn version_tables_of_wrong_lengths() {
+    let Desk { record, data, committed, .. } = busy();
+    for length in [0, 1, 5, 6, 1_022, 1_023, 1_025, 2_048] {
+        for (client, cell) in [(0, 5), (0, 6), (1, 5), (2, 5), (64, 5), (0, 1_024)] {
+            let mut versions = vec![1; length];
+            let answer = record.read(&data, &committed, &mut versions, client, cell);
+            assert_eq!(answer, Err(2), "{length} entries, client {client}, cell {cell}");
+            assert!(versions.iter().all(|entry| *entry == 1), "{length} entries");
+        }
+    }
+    let mut versions = vec![0; CELLS];
+    assert!(record.read(&data, &committed, &mut versions, 1, 5).is_ok_and(|value| value.is_some()));
+    assert_eq!(versions.iter().position(|entry| *entry == 2), Some(5));
+    assert_eq!(versions.iter().sum::<u32>(), 2);
 }
 
 // ------------------------------------------------------------------- damaged records
@@ -165,19 +185,19 @@ fn set_ups() {
     assert_eq!(accepted.len(), 4 * 3 * 5, "{accepted:?}");
 }
 
-/// A refused set-up leaves a record of zeros and the bytes as they were, an accepted one the
-/// model's new store. Is it accepted?
+/// A refused set-up leaves a record and a version table of zeros and the bytes as they were, an
+/// accepted one the model's new store. Is it accepted?
 fn set_up_as_the_model(data: usize, committed: usize, first: u32, limit: u32) -> bool {
     let what = format!("{data} and {committed} bytes, first {first}, limit {limit}");
     let model = Store::set_up_under(landed(), data, committed, first, limit);
     let (data, committed) = (old_bytes(data), old_bytes(committed));
-    let old = Desk { record: OLD_RECORD, data, committed };
+    let old = Desk { record: OLD_RECORD, versions: OLD_VERSIONS, data, committed };
     let mut new = old.clone();
-    let answer = new.record.set_up(&mut new.data, &mut new.committed, first, limit);
+    let answer = new.set_up_in_place(first, limit);
     assert_eq!(answer.err(), model.as_ref().err().map(|refusal| refusal.number()), "{what}");
     let due = match &model {
         Ok(store) => desk_of(store),
-        Err(_) => Desk { record: Record::NONE, ..old },
+        Err(_) => Desk { record: Record::NONE, versions: [0; CELLS], ..old },
     };
     assert_eq!(difference(&new, &due), None, "{what}");
     assert_eq!(answer.unwrap_or(0), due.record.head.rows, "{what}");
@@ -188,7 +208,7 @@ fn set_up_as_the_model(data: usize, committed: usize, first: u32, limit: u32) ->
 #[test]
 fn after_a_refused_set_up() {
     let mut desk = busy();
-    assert_eq!(desk.record.set_up(&mut desk.data, &mut desk.committed, 0, 0), Err(1));
+    assert_eq!(desk.set_up_in_place(0, 0), Err(1));
     all_unfit("refused set-up", &desk.record, &desk.data, &desk.committed);
     all_unfit("refused set-up, no buffers", &desk.record, &[], &[]);
 }

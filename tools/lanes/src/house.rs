@@ -1,8 +1,9 @@
-//! A store held by the tool: record and buffers, and a form answered on them by the library.
+//! A store held by the tool: record, version table and buffers, and a form answered on them by the
+//! library.
 
 use crate::forms::Form;
 use std::fmt;
-use wellcherry::{Progress, Record, CLIENTS, COMMITTED_ROW, DATA_ROW, VALUE};
+use wellcherry::{Progress, Record, Versions, CELLS, CLIENTS, COMMITTED_ROW, DATA_ROW, VALUE};
 
 /// What a call gives.
 #[derive(Clone, Copy, Debug, PartialEq, Eq)]
@@ -25,27 +26,35 @@ const NO_FORM: u32 = 13;
 const BAD_SET_UP: u32 = 1;
 const MOST_ROWS: u32 = 1024;
 
-/// Record and buffers.
+/// Record, version table and buffers.
 #[derive(Clone)]
 pub struct House {
     record: Record,
+    versions: Versions,
     data: Vec<u8>,
     committed: Vec<u8>,
 }
 
 impl House {
     /// Before any set-up.
-    pub const NONE: House = House { record: Record::NONE, data: Vec::new(), committed: Vec::new() };
+    pub const NONE: House = House {
+        record: Record::NONE,
+        versions: [0; CELLS],
+        data: Vec::new(),
+        committed: Vec::new(),
+    };
 
     /// The library's answer to a form.
     pub fn answer(&mut self, form: &Form) -> Answer {
-        let House { record, data, committed } = self;
+        let House { record, versions, data, committed } = self;
         match *form {
             Form::SetUp { rows, first, limit } => self.set_up(rows, first, limit),
             Form::Begin { client } => record
                 .begin(data, committed, client)
                 .map(|(number, snapshot)| Given::Begun { number, snapshot }),
-            Form::Read { client, cell } => record.read(data, committed, client, cell).map(reading),
+            Form::Read { client, cell } => {
+                record.read(data, committed, versions, client, cell).map(reading)
+            }
             Form::Write { client, cell, value } => {
                 record.write(data, committed, client, cell, &value).map(Given::Free)
             }
@@ -64,8 +73,9 @@ impl House {
         }
         let rows = rows as usize;
         let (data, committed) = (vec![0; rows * DATA_ROW], vec![0; rows * COMMITTED_ROW]);
-        let mut new = House { record: Record::NONE, data, committed };
-        let free = new.record.set_up(&mut new.data, &mut new.committed, first, limit)?;
+        let mut new = House { data, committed, ..House::NONE };
+        let House { record, versions, data, committed } = &mut new;
+        let free = record.set_up(data, committed, versions, first, limit)?;
         *self = new;
         Ok(Given::Free(free))
     }

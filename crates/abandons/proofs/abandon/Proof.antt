@@ -16,14 +16,14 @@ use Rattle.abandons.proofs.abandon.Statement.{statement}
 use Rattle.abandons.proofs.abandon.Tie as tie
 
 returns : tie.Need-returns
-returns c = rw (c .no-figure .ensures) (ends-unfit _ _ _ _ (sym (c .before .before .fit .ensures _ _ _ _ _ _) ∙ not-true _ (c .before
-    .if1 .taken)))
+returns c = λ v. rw (c .no-figure .ensures)
+    (ends-unfit _ _ _ _ _ (sym (c .before .before .fit .ensures _ _ _ _ _ _) ∙ not-true _ (c .before .if1 .taken)))
 
 returns-2 : tie.Need-returns-2
 unfolding abandon
 returns-2 c =
     let a = c .before .before .before .before .before .before .before .args in
-    rw (c .no-figure2 .ensures) (refuses _ _ _ _ _ (sym (c .before .before .before .fit .ensures _ _ _ _ _ _) ∙ not-false _ (c .before
+    λ v. rw (c .no-figure2 .ensures) (refuses _ _ _ _ _ _ (sym (c .before .before .before .fit .ensures _ _ _ _ _ _) ∙ not-false _ (c .before
     .before .if1 .left))
     (rw (le-leb clients (a .client) (omega arith))))
 
@@ -31,7 +31,7 @@ returns-3 : tie.Need-returns-3
 unfolding abandon decode
 returns-3 c =
     let a = c .before .before .before .before .before .before .before .before .before .args in
-    rw (c .no-figure3 .ensures) (refuses _ _ _ _ _ (sym (c .before .before .before .before .before .fit .ensures _ _ _ _ _ _) ∙ not-false
+    λ v. rw (c .no-figure3 .ensures) (refuses _ _ _ _ _ _ (sym (c .before .before .before .before .before .fit .ensures _ _ _ _ _ _) ∙ not-false
     _ (c .before .before .before .before .if1 .left))
     (rw (lt-leb clients (a .client) (omega arith), eq-eqb (getD (a .number .now) (a .client) 0) 0 (omega arith))))
 
@@ -39,7 +39,7 @@ returns-4 : tie.Need-returns-4
 unfolding abandon decode
 returns-4 c =
     let a = c .before .before .before .before .before .before .before .before .before .before .before .args in
-    rw (c .no-figure4 .ensures) (refuses _ _ _ _ _ (sym (c .before .before .before .before .before .before .before .fit .ensures _ _ _ _
+    λ v. rw (c .no-figure4 .ensures) (refuses _ _ _ _ _ _ (sym (c .before .before .before .before .before .before .before .fit .ensures _ _ _ _
     _ _) ∙ not-false _ (c .before .before .before .before .before .before .if1 .left))
     (rw (
       lt-leb clients (a .client) (omega arith),
@@ -60,19 +60,19 @@ sub-t23 c =
     omega (
       arith,
       f .dataRows,
-      removed-within _ _ _ _ _ (c .before .before .before .remove .ensures .store (c .before .before .before
+      removed-within _ _ _ [] _ _ (c .before .before .before .remove .ensures .store (c .before .before .before
           .before .before .before .before .before .before .before .before .before .before .before .before .before .before .before .before
-          .before .before .before .args .commits .now)) (f .dataRows),
+          .before .before .before .args .commits .now) []) (f .dataRows),
     )
 
 returns-5 : tie.Need-returns-5
 returns-5 c =
     let gone = c .before .before .before .remove .ensures in
-    goes _ _ _ _ (sym (c .before .before .before .before .before .before .before .before .before .before .before .before .before .before
+    λ v. goes _ _ _ _ _ (sym (c .before .before .before .before .before .before .before .before .before .before .before .before .before .before
     .before .before .before .before .fit .ensures _ _ _ _ _ _) ∙ not-false _ (c .before .before .before .before .before .before
     .before .before .before .before .before .before .before .before .before .before .before .if1 .left))
-    (removed-ends _ _ _ _ _ _ _ gone
-    ∙ ap (encode _ _ _) (abandon-removed _ _ _ _ _ (removed-figure _ _ _ _ _ (gone .store _)) (omega arith) (c .before .before .before
+    (removed-ends _ _ _ _ _ v _ _ gone
+    ∙ ap (encode _ _ _) (abandon-removed _ _ _ v _ _ (removed-figure _ _ _ v _ _ (gone .store _ v)) (omega arith) (c .before .before .before
     .before .before .before .before .before .before .before .before .before .before .before .if3 .left) (omega arith)))
 
 pub abandon-spec : {M : Type 1} → statement M

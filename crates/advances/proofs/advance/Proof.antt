@@ -13,14 +13,14 @@ use Rattle.advances.proofs.advance.Statement.{statement}
 use Rattle.advances.proofs.advance.Tie as tie
 
 returns : tie.Need-returns
-returns c = rw (c .refuse .ensures) (ends-unfit _ _ _ _ (sym (c .before .before .fit .ensures _ _ _ _ _ _) ∙ not-true _ (c .before .if1
-    .taken)))
+returns c = λ v. rw (c .refuse .ensures)
+    (ends-unfit _ _ _ _ _ (sym (c .before .before .fit .ensures _ _ _ _ _ _) ∙ not-true _ (c .before .if1 .taken)))
 
 returns-2 : tie.Need-returns-2
 unfolding advance
 returns-2 c =
     let a = c .before .before .before .before .before .before .before .args in
-    rw (c .refuse2 .ensures) (refuses _ _ _ _ _ (sym (c .before .before .before .fit .ensures _ _ _ _ _ _) ∙ not-false _ (c .before
+    λ v. rw (c .refuse2 .ensures) (refuses _ _ _ _ _ _ (sym (c .before .before .before .fit .ensures _ _ _ _ _ _) ∙ not-false _ (c .before
     .before .if1 .left))
     (rw (le-leb clients (a .client) (omega arith))))
 
@@ -28,7 +28,7 @@ returns-3 : tie.Need-returns-3
 unfolding advance decode
 returns-3 c =
     let a = c .before .before .before .before .before .before .before .before .before .args in
-    rw (c .refuse3 .ensures) (refuses _ _ _ _ _ (sym (c .before .before .before .before .before .fit .ensures _ _ _ _ _ _) ∙ not-false _
+    λ v. rw (c .refuse3 .ensures) (refuses _ _ _ _ _ _ (sym (c .before .before .before .before .before .fit .ensures _ _ _ _ _ _) ∙ not-false _
     (c .before .before .before .before .if1 .left))
     (rw (lt-leb clients (a .client) (omega arith), eq-eqb (getD (a .number .now) (a .client) 0) 0 (omega arith))))
 
@@ -45,7 +45,7 @@ unfolding advance decode
 returns-4 c =
     let a = c .before .before .before .before .before .before .before .before .before .before .before .before .before .before .before
     .before .before .before .before .before .before .before .args in
-    goes _ _ _ _ (sym (c .before .before .before .before .before .before .before .before .before .before .before .before .before .before
+    λ v. goes _ _ _ _ _ (sym (c .before .before .before .before .before .before .before .before .before .before .before .before .before .before
     .before .before .before .before .fit .ensures _ _ _ _ _ _) ∙ not-false _ (c .before .before .before .before .before .before
     .before .before .before .before .before .before .before .before .before .before .before .if1 .left))
     (rw (
@@ -53,7 +53,7 @@ returns-4 c =
       ne-eqb (getD (a .number .now) (a .client) 0) 0 (c .before .before .before .before
           .before .before .before .before .before .before .before .before .before .before .if3 .left),
     ) (c .before .before .before .before
-    .step .ensures))
+    .step .ensures v))
 
 pub advance-spec : {M : Type 1} → statement M
 advance-spec =

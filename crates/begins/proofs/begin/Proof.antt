@@ -13,14 +13,14 @@ use Rattle.begins.proofs.begin.Statement.{statement}
 use Rattle.begins.proofs.begin.Tie as tie
 
 returns : tie.Need-returns
-returns c = rw (c .no-begin .ensures) (ends-unfit _ _ _ _ (sym (c .before .before .fit .ensures _ _ _ _ _ _) ∙ not-true _ (c .before .if1
-    .taken)))
+returns c = λ v. rw (c .no-begin .ensures)
+    (ends-unfit _ _ _ _ _ (sym (c .before .before .fit .ensures _ _ _ _ _ _) ∙ not-true _ (c .before .if1 .taken)))
 
 returns-2 : tie.Need-returns-2
 unfolding begin
 returns-2 c =
     let a = c .before .before .before .before .before .before .before .args in
-    rw (c .no-begin2 .ensures) (refuses _ _ _ _ _ (sym (c .before .before .before .fit .ensures _ _ _ _ _ _) ∙ not-false _ (c .before
+    λ v. rw (c .no-begin2 .ensures) (refuses _ _ _ _ _ _ (sym (c .before .before .before .fit .ensures _ _ _ _ _ _) ∙ not-false _ (c .before
     .before .if1 .left))
     (rw (le-leb clients (a .client) (omega arith))))
 
@@ -28,7 +28,7 @@ returns-3 : tie.Need-returns-3
 unfolding begin decode
 returns-3 c =
     let a = c .before .before .before .before .before .before .before .before .before .args in
-    rw (c .no-begin3 .ensures) (refuses _ _ _ _ _ (sym (c .before .before .before .before .before .fit .ensures _ _ _ _ _ _) ∙ not-false
+    λ v. rw (c .no-begin3 .ensures) (refuses _ _ _ _ _ _ (sym (c .before .before .before .before .before .fit .ensures _ _ _ _ _ _) ∙ not-false
     _ (c .before .before .before .before .if1 .left))
     (rw (lt-leb clients (a .client) (omega arith), ne-eqb (getD (a .number .now) (a .client) 0) 0 (c .before .if3 .taken))))
 
@@ -36,7 +36,7 @@ returns-4 : tie.Need-returns-4
 unfolding begin decode
 returns-4 c =
     let a = c .before .before .before .before .before .before .before .before .before .before .before .args in
-    rw (c .no-begin4 .ensures) (refuses _ _ _ _ _ (sym (c .before .before .before .before .before .before .before .fit .ensures _ _ _ _ _
+    λ v. rw (c .no-begin4 .ensures) (refuses _ _ _ _ _ _ (sym (c .before .before .before .before .before .before .before .fit .ensures _ _ _ _ _
     _) ∙ not-false _ (c .before .before .before .before .before .before .if1 .left))
     (rw (
       lt-leb clients (a .client) (omega arith),
@@ -48,7 +48,7 @@ returns-5 : tie.Need-returns-5
 unfolding begin begun decode
 returns-5 c =
     let a = c .before .before .before .before .before .before .before .before .before .before .before .args in
-    settles _ _ _ _ _ _ _ (sym (c .before .before .before .before .before .before .before .fit .ensures _ _ _ _ _ _) ∙ not-false _ (c
+    λ v. settles _ _ _ _ _ _ _ _ (sym (c .before .before .before .before .before .before .before .fit .ensures _ _ _ _ _ _) ∙ not-false _ (c
     .before .before .before .before .before .before .if1 .left))
     (rw (
       lt-leb clients (a .client) (omega arith),

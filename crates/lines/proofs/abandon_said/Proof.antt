@@ -38,10 +38,10 @@ returns c =
     let e = c .before .before .before .before .before .before .before .before .before .before .before .before .before .before .before
     .before .before .front2 in
     let l = c .before .before .before .free-line in
-    spoken (whole (a .h) (columnsNow (a .stage) (a .number) (a .snapshot) (a .request) (a .commit) (a .requestWaits) (a .commitWaits)))
-    (a .rows .now) (a .commits .now) _ _ _ _ (call.Abandon (a .client)) (Abandon (a .client)) (d .result) (e .result) _ _ _ _ _ _ (d
+    λ v. spoken (whole (a .h) (columnsNow (a .stage) (a .number) (a .snapshot) (a .request) (a .commit) (a .requestWaits) (a .commitWaits)))
+    (a .rows .now) (a .commits .now) v _ _ _ _ (call.Abandon (a .client)) (Abandon (a .client)) (d .result) (e .result) _ _ _ _ _ _ _ (d
     .ensures .1) (e .ensures .1)
-    (c .before .before .before .before .before .before .before .abandon .ensures)
+    (c .before .before .before .before .before .before .before .abandon .ensures v)
     refl (sym (take-append-drop (e .result) (a .commits .now))) (l .ensures .0) (l .ensures .1)
 
 pub abandon-said-spec : {M : Type 1} → statement M

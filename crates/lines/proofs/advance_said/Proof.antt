@@ -38,10 +38,10 @@ returns c =
     let e = c .before .before .before .before .before .before .before .before .before .before .before .before .before .before .before
     .before .before .before .before .front2 in
     let l = c .before .before .before .progress-line in
-    spoken (whole (a .h) (columnsNow (a .stage) (a .number) (a .snapshot) (a .request) (a .commit) (a .requestWaits) (a .commitWaits)))
-    (a .rows .now) (a .commits .now) _ _ _ _ (call.Advance (a .client)) (Advance (a .client)) (d .result) (e .result) _ _ _ _ _ _ (d
+    λ v. spoken (whole (a .h) (columnsNow (a .stage) (a .number) (a .snapshot) (a .request) (a .commit) (a .requestWaits) (a .commitWaits)))
+    (a .rows .now) (a .commits .now) v _ _ _ _ (call.Advance (a .client)) (Advance (a .client)) (d .result) (e .result) _ _ _ _ _ _ _ (d
     .ensures .1) (e .ensures .1)
-    (c .before .before .before .before .before .before .before .before .before .advance .ensures)
+    (c .before .before .before .before .before .before .before .before .before .advance .ensures v)
     refl refl (l .ensures .0) (l .ensures .1)
 
 pub advance-said-spec : {M : Type 1} → statement M

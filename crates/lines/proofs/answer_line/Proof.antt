@@ -13,13 +13,14 @@ returns : tie.Need-returns
 unfolding response
 returns c =
     let a = c .before .before .before .before .before .before .before .before .before .before .before .before .before .before .before
-    .before .before .before .before .before .before .before .before .before .before .args in
+    .before .before .before .before .before .before .before .before .before .before .before .args in
     let f = c .before .before .before .before .before .before .before .before .before .before .before .before .before .before .before
-    .before .before .before .before .before .form-of in
+    .before .before .before .before .before .before .form-of in
     rw (by-form (a .line .now) (memoryOf (whole (a .h) (columnsNow (a .stage) (a .number) (a .snapshot) (a .request) (a .commit) (a
     .requestWaits) (a .commitWaits)))
-    (a .rows .now) (a .commits .now)) (f .result) _ (f .ensures) (c .before .before .before .before .before .before .before .before
-    .before .before .before .before .before .before .before .before .before .before .form .given .1)) (c .before .before .before
+    (a .rows .now) (a .commits .now) (a .versions .now)) (f .result) _
+    (f .ensures) (c .before .before .before .before .before .before .before .before
+    .before .before .before .before .before .before .before .before .before .before .before .form .given .1)) (c .before .before .before
     .before .before .before .set-up-said .ensures)
 
 returns-2 : tie.Need-returns-2
@@ -31,19 +32,21 @@ returns-2 c =
     .before .form-of in
     rw (by-form (a .line .now) (memoryOf (whole (a .h) (columnsNow (a .stage) (a .number) (a .snapshot) (a .request) (a .commit) (a
     .requestWaits) (a .commitWaits)))
-    (a .rows .now) (a .commits .now)) (f .result) _ (f .ensures) (c .before .before .before .before .before .before .before .before
-    .before .before .before .before .before .before .form2 .given .1)) (c .before .before .begin-said .ensures)
+    (a .rows .now) (a .commits .now) (a .versions .now)) (f .result) _
+    (f .ensures) (c .before .before .before .before .before .before .before .before
+    .before .before .before .before .before .before .form2 .given .1)) (c .before .before .begin-said .ensures _)
 
 returns-3 : tie.Need-returns-3
 unfolding response
 returns-3 c =
     let a = c .before .before .before .before .before .before .before .before .before .before .before .before .before .before .before
-    .before .before .args in
-    let f = c .before .before .before .before .before .before .before .before .before .before .before .before .form-of in
+    .before .before .before .args in
+    let f = c .before .before .before .before .before .before .before .before .before .before .before .before .before .form-of in
     rw (by-form (a .line .now) (memoryOf (whole (a .h) (columnsNow (a .stage) (a .number) (a .snapshot) (a .request) (a .commit) (a
     .requestWaits) (a .commitWaits)))
-    (a .rows .now) (a .commits .now)) (f .result) _ (f .ensures) (c .before .before .before .before .before .before .before .before
-    .before .before .form3 .given .1)) (c .before .before .read-said .ensures _ _ _ _)
+    (a .rows .now) (a .commits .now) (a .versions .now)) (f .result) _
+    (f .ensures) (c .before .before .before .before .before .before .before .before
+    .before .before .before .form3 .given .1)) (c .before .before .read-said .ensures _ _ _ _)
 
 returns-4 : tie.Need-returns-4
 unfolding response
@@ -53,8 +56,9 @@ returns-4 c =
     let f = c .before .before .before .before .before .before .before .before .before .before .before .before .before .form-of in
     rw (by-form (a .line .now) (memoryOf (whole (a .h) (columnsNow (a .stage) (a .number) (a .snapshot) (a .request) (a .commit) (a
     .requestWaits) (a .commitWaits)))
-    (a .rows .now) (a .commits .now)) (f .result) _ (f .ensures) (c .before .before .before .before .before .before .before .before
-    .before .before .before .form4 .given .1)) (c .before .before .before .before .write-said .ensures _ _ _ _ _)
+    (a .rows .now) (a .commits .now) (a .versions .now)) (f .result) _
+    (f .ensures) (c .before .before .before .before .before .before .before .before
+    .before .before .before .form4 .given .1)) (c .before .before .before .before .write-said .ensures _ _ _ _ _ _)
 
 returns-5 : tie.Need-returns-5
 unfolding response
@@ -65,9 +69,10 @@ returns-5 c =
     .before .before .before .before .before .form-of in
     rw (by-form (a .line .now) (memoryOf (whole (a .h) (columnsNow (a .stage) (a .number) (a .snapshot) (a .request) (a .commit) (a
     .requestWaits) (a .commitWaits)))
-    (a .rows .now) (a .commits .now)) (f .result) _ (f .ensures) (c .before .before .before .before .before .before .before .before
+    (a .rows .now) (a .commits .now) (a .versions .now)) (f .result) _
+    (f .ensures) (c .before .before .before .before .before .before .before .before
     .before .before .before .before .before .before .before .before .before .before .form5 .given .1)) (c .before .before .before
-    .before .before .before .advance-said .ensures)
+    .before .before .before .advance-said .ensures _)
 
 returns-6 : tie.Need-returns-6
 unfolding response
@@ -78,9 +83,10 @@ returns-6 c =
     .before .before .before .form-of in
     rw (by-form (a .line .now) (memoryOf (whole (a .h) (columnsNow (a .stage) (a .number) (a .snapshot) (a .request) (a .commit) (a
     .requestWaits) (a .commitWaits)))
-    (a .rows .now) (a .commits .now)) (f .result) _ (f .ensures) (c .before .before .before .before .before .before .before .before
+    (a .rows .now) (a .commits .now) (a .versions .now)) (f .result) _
+    (f .ensures) (c .before .before .before .before .before .before .before .before
     .before .before .before .before .before .before .before .before .form6 .given .1)) (c .before .before .before .before
-    .abandon-said .ensures)
+    .abandon-said .ensures _)
 
 returns-7 : tie.Need-returns-7
 unfolding response
@@ -91,9 +97,9 @@ returns-7 c =
     .form-of in
     rw (by-form (a .line .now) (memoryOf (whole (a .h) (columnsNow (a .stage) (a .number) (a .snapshot) (a .request) (a .commit) (a
     .requestWaits) (a .commitWaits)))
-    (a .rows .now) (a .commits .now)) (f .result) _ (f .ensures) (c .before .before .before .before .before .before .before .before
-    .before .before .before .before .before .enum-told .given .1)) (c .before .before .before .before .before .before .trim-said
-    .ensures _ _ _ _)
+    (a .rows .now) (a .commits .now) (a .versions .now)) (f .result) _
+    (f .ensures) (c .before .before .before .before .before .before .before .before
+    .before .before .before .before .before .enum-told .given .1)) (c .before .before .before .before .before .before .trim-said .ensures _ _ _ _ _)
 
 returns-8 : tie.Need-returns-8
 unfolding response
@@ -102,8 +108,9 @@ returns-8 c =
     let f = c .before .before .before .before .before .before .before .before .before .form-of in
     rw (by-form (a .line .now) (memoryOf (whole (a .h) (columnsNow (a .stage) (a .number) (a .snapshot) (a .request) (a .commit) (a
     .requestWaits) (a .commitWaits)))
-    (a .rows .now) (a .commits .now)) (f .result) _ (f .ensures) (c .before .before .before .before .before .before .before .enum-told2
-    .given .1)) (c .before .before .free-said .ensures _ _ _ _ _ _)
+    (a .rows .now) (a .commits .now) (a .versions .now)) (f .result) _
+    (f .ensures) (c .before .before .before .before .before .before .before .enum-told2
+    .given .1)) (c .before .before .free-said .ensures _ _ _ _ _ _ _)
 
 returns-9 : tie.Need-returns-9
 unfolding response
@@ -112,7 +119,8 @@ returns-9 c =
     let f = c .before .before .before .before .before .before .form-of in
     rw (by-form (a .line .now) (memoryOf (whole (a .h) (columnsNow (a .stage) (a .number) (a .snapshot) (a .request) (a .commit) (a
     .requestWaits) (a .commitWaits)))
-    (a .rows .now) (a .commits .now)) (f .result) _ (f .ensures) (c .before .before .before .before .enum-told3 .given .1)) (record {
+    (a .rows .now) (a .commits .now) (a .versions .now)) (f .result) _
+    (f .ensures) (c .before .before .before .before .enum-told3 .given .1)) (record {
       memory = refl;
       text = c .before .before .refused-line .ensures .0;
       room = c .before .before .refused-line .ensures .1;

@@ -38,10 +38,10 @@ returns c =
     let e = c .before .before .before .before .before .before .before .before .before .before .before .before .before .before .before
     .front2 in
     let l = c .before .before .before .begun-line in
-    spoken (whole (a .h) (columnsNow (a .stage) (a .number) (a .snapshot) (a .request) (a .commit) (a .requestWaits) (a .commitWaits)))
-    (a .rows .now) (a .commits .now) _ _ _ _ (call.Begin (a .client)) (Begin (a .client)) (d .result) (e .result) _ _ _ _ _ _ (d .ensures
+    λ v. spoken (whole (a .h) (columnsNow (a .stage) (a .number) (a .snapshot) (a .request) (a .commit) (a .requestWaits) (a .commitWaits)))
+    (a .rows .now) (a .commits .now) v _ _ _ _ (call.Begin (a .client)) (Begin (a .client)) (d .result) (e .result) _ _ _ _ _ _ _ (d .ensures
     .1) (e .ensures .1)
-    (c .before .before .before .before .before .begin .ensures)
+    (c .before .before .before .before .before .begin .ensures v)
     (sym (take-append-drop (d .result) (a .rows .now))) (sym (take-append-drop (e .result) (a .commits .now))) (l .ensures .0) (l
     .ensures .1)
 

@@ -22,23 +22,23 @@ slice-aggregate-read-2 c = simp length-take (omega (arith, c .before .before .fr
 
 reading-line-requires : tie.Need-reading-line-requires
 reading-line-requires c κs = (
-  c .before .before .before .before .before .before .before .before .before .before .before .before .pre,
+  c .before .before .before .before .before .before .before .before .before .before .before .before .before .pre,
   rw
       (c .before .value-read .ensures) (value-short (c .before .before .before .before .before .before .before .before .before .before
-      .before .before .args .rows .now) (readOf (c .before .before .read .result))),
+      .before .before .before .args .rows .now) (readOf (c .before .before .read .result))),
 )
 
 returns : tie.Need-returns
 returns c =
     let a = c .before .before .before .before .before .before .before .before .before .before .before .before .before .before .before
-    .args in
-    let d = c .before .before .before .before .before .before .before .before .before .before .front in
-    let e = c .before .before .before .before .before .before .before .before .front2 in
+    .before .args in
+    let d = c .before .before .before .before .before .before .before .before .before .before .before .front in
+    let e = c .before .before .before .before .before .before .before .before .before .front2 in
     let t = c .before .before .before .before .before .read in
     let l = c .before .before .reading-line in
     λ q m b w. spoken (whole (a .h) (clientsOf (a .stage .now) (a .number .now) (a .snapshot .now) q m b w))
-    (a .rows .now) (a .commits .now) _ _ _ _ (call.Read (a .client) (a .cell)) (Read (a .client) (a .cell)) (d .result) (e .result) _ _ _
-    _ _ _
+    (a .rows .now) (a .commits .now) (a .versions .now) _ _ _ _ (call.Read (a .client) (a .cell)) (Read (a .client) (a .cell)) (d .result)
+    (e .result) _ _ _ _ _ _ _
     (d .ensures .1) (e .ensures .1) (t .ensures q m b w)
     (sym (take-append-drop (d .result) (a .rows .now))) (sym (take-append-drop (e .result) (a .commits .now)))
     (rw (reading-printed (a .rows .now) _ (Read (a .client) (a .cell)) (readOf (t .result)) (c .before .before .before .before

@@ -29,9 +29,9 @@ returns c =
     let d = c .before .before .before .before .before .before .before .before .before .before .before .before .before .before .front in
     let e = c .before .before .before .before .before .before .before .before .before .before .before .before .front2 in
     let l = c .before .before .before .dropped-line in
-    λ q m b w. spoken (whole (a .h) (clientsOf (a .stage .now) (a .number .now) (a .snapshot .now) q m b w))
-    (a .rows .now) (a .commits .now) _ _ _ _ (call.Trim) (Trim) (d .result) (e .result) _ _ _ _ _ _ (d .ensures .1) (e .ensures .1)
-    (c .before .before .before .before .before .before .before .before .before .trim .ensures q m b w)
+    λ q m b w v. spoken (whole (a .h) (clientsOf (a .stage .now) (a .number .now) (a .snapshot .now) q m b w))
+    (a .rows .now) (a .commits .now) v _ _ _ _ (call.Trim) (Trim) (d .result) (e .result) _ _ _ _ _ _ _ (d .ensures .1) (e .ensures .1)
+    (c .before .before .before .before .before .before .before .before .before .trim .ensures q m b w v)
     refl refl (l .ensures .0) (l .ensures .1)
 
 pub trim-said-spec : {M : Type 1} → statement M

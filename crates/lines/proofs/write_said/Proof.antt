@@ -30,11 +30,11 @@ returns c =
     let d = c .before .before .before .before .before .before .before .before .before .before .before .before .before .before .front in
     let e = c .before .before .before .before .before .before .before .before .before .before .before .before .front2 in
     let l = c .before .before .before .free-line in
-    λ s q m b w. spoken (whole (a .h) (clientsOf (a .stage .now) (a .number .now) s q m b w))
-    (a .rows .now) (a .commits .now) _ _ _ _ (call.Write (a .client) (a .cell) (valueIn (a .line .now) (a .place)))
-    (Write (a .client) (a .cell) (a .place)) (d .result) (e .result) _ _ _ _ _ _ (d .ensures .1) (e .ensures .1)
+    λ s q m b w v. spoken (whole (a .h) (clientsOf (a .stage .now) (a .number .now) s q m b w))
+    (a .rows .now) (a .commits .now) v _ _ _ _ (call.Write (a .client) (a .cell) (valueIn (a .line .now) (a .place)))
+    (Write (a .client) (a .cell) (a .place)) (d .result) (e .result) _ _ _ _ _ _ _ (d .ensures .1) (e .ensures .1)
     (rw (c .before .before .before .before .before .before .before .before .before .before .before .value-in .ensures) at (c .before
-    .before .before .before .before .before .before .write .ensures s q m b w))
+    .before .before .before .before .before .before .write .ensures s q m b w v))
     refl (sym (take-append-drop (e .result) (a .commits .now))) (l .ensures .0) (l .ensures .1)
 
 pub write-said-spec : {M : Type 1} → statement M

@@ -8,8 +8,8 @@ use Rattle.lists.proofs.list_commits.Tie as tie
 
 returns : tie.Need-returns
 unfolding listCommits others decode encode
-returns c = λ n s q m b d e. rw (← (rw (c .before .before .before .before .commit-queue .ensures) at (c .before .before .others
-    .ensures))) (c .go-on .ensures _ _ _ _ _ _ d e)
+returns c = λ n s q m b d e v. rw (← (rw (c .before .before .before .before .commit-queue .ensures) at (c .before .before .others
+    .ensures))) (c .go-on .ensures _ _ _ _ _ _ d e v)
 
 pub list-commits-spec : {M : Type 1} → statement M
 list-commits-spec =

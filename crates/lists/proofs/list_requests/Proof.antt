@@ -8,11 +8,11 @@ use Rattle.lists.proofs.list_requests.Tie as tie
 
 returns : tie.Need-returns
 unfolding listRequests others decode encode
-returns c = λ s q m w e. rw (
+returns c = λ s q m w e v. rw (
   ← (rw (c .before .before .before .before .before .before .before .request-queue .ensures) at (c .before
       .before .before .others .ensures)),
   ← c .before .before .sharers .ensures,
-) (c .go-on .ensures _ _ _ _ _ _ _ e)
+) (c .go-on .ensures _ _ _ _ _ _ _ e v)
 
 pub list-requests-spec : {M : Type 1} → statement M
 list-requests-spec =

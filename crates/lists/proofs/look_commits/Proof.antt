@@ -8,8 +8,8 @@ use Rattle.lists.proofs.look_commits.Tie as tie
 
 returns : tie.Need-returns
 unfolding lookCommits decode encode
-returns c = λ n s q b d e. rw (← (rw (c .before .before .before .before .before .before .commit-queue .ensures) at (c .before .before
-    .look .ensures))) (c .looked .ensures _ _ _ _ _ _ d e)
+returns c = λ n s q b d e v. rw (← (rw (c .before .before .before .before .before .before .commit-queue .ensures) at (c .before .before
+    .look .ensures))) (c .looked .ensures _ _ _ _ _ _ d e v)
 
 pub look-commits-spec : {M : Type 1} → statement M
 look-commits-spec =

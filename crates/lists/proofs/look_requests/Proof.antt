@@ -8,8 +8,8 @@ use Rattle.lists.proofs.look_requests.Tie as tie
 
 returns : tie.Need-returns
 unfolding lookRequests decode encode
-returns c = λ n s m w d e. rw (← (rw (c .before .before .before .before .before .before .request-queue .ensures) at (c .before .before
-    .look .ensures))) (c .looked .ensures _ _ _ _ _ _ d e)
+returns c = λ n s m w d e v. rw (← (rw (c .before .before .before .before .before .before .request-queue .ensures) at (c .before .before
+    .look .ensures))) (c .looked .ensures _ _ _ _ _ _ d e v)
 
 pub look-requests-spec : {M : Type 1} → statement M
 look-requests-spec =

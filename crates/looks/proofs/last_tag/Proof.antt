@@ -1,4 +1,4 @@
--- `looks::last_tag`: no row behind row i is a hit, sixteen a turn and then one by one.
+-- `looks::last_tag`: no row behind row i is a hit, thirty-two a turn and then one by one.
 use Prim.Native.Nat.{_≤_, _-_}
 use mathlib.Core.Path.{refl}
 use native.Mathlib.Omega.{arith}
@@ -11,7 +11,7 @@ abbrev Inv-loop : tie.InvT-loop
 Inv-loop rows until least i₀ i = (i ≤ until) × Past (λ k. least ≤ tagOf (rowAt 24 k rows)) i until
 
 abbrev Inv-loop2 : tie.InvT-loop2
-Inv-loop2 rows until least i j₀ j = (j ≤ 16) × Past (λ k. least ≤ tagOf (rowAt 24 k rows)) (i - j) until
+Inv-loop2 rows until least i j₀ j = (j ≤ 32) × Past (λ k. least ≤ tagOf (rowAt 24 k rows)) (i - j) until
 
 abbrev Inv-loop3 : tie.InvT-loop3
 Inv-loop3 rows until least i₀ i = (i ≤ until) × Past (λ k. least ≤ tagOf (rowAt 24 k rows)) i until
@@ -20,7 +20,7 @@ pub last-tag-spec : {M : Type 1} → statement M
 last-tag-spec =
     tie.close
     (tie.spec
-    Inv-loop2 (λ rows until least i j₀ j. 16 - j)
+    Inv-loop2 (λ rows until least i j₀ j. 32 - j)
     Inv-loop (λ rows until least i₀ i. i)
     Inv-loop3 (λ rows until least i₀ i. i)
     (λ c. (omega arith, past-none refl))

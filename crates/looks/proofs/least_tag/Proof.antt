@@ -1,10 +1,9 @@
 -- `looks::least_tag`: what it has come to is at most the reader's number and the tags of the rows passed.
-use Prim.Native.Nat.{ℕ, _+_, _≤_, _<_, _-_}
-use mathlib.Core.Path.{_≡_}
+use Prim.Native.Nat.{ℕ, _+_, _≤_, _-_}
 use mathlib.Core.List.{List}
 use mathlib.Core.Logic.{⊎-elim}
-use native.Mathlib.Decide.{decLt}
 use native.Mathlib.Omega.{arith}
+use borrow.Author.Count.{below-more}
 use borrow.Author.Needs.{needs}
 use Rattle.spec.specs.Rows.{rowAt, commitTag}
 use Rattle.looks.specs.Inner.{LeastTag}
@@ -12,16 +11,13 @@ use Rattle.looks.proofs.least_tag.Statement.{statement}
 use Rattle.looks.proofs.least_tag.Tie as tie
 
 -- one row more
-least-more : (c : List ℕ) (from i tag least next : ℕ) → LeastTag c from i tag least → next ≤ least → next ≤ commitTag (rowAt 8 i c)
+least-more : {c : List ℕ} {from i tag least : ℕ} (next : ℕ) → LeastTag c from i tag least → next ≤ least → next ≤ commitTag (rowAt 8 i c)
     → LeastTag c from (i + 1) tag next
-least-more c from i tag least next so-far h here =
-    record { own = omega (arith, so-far .own); each = λ k l b. go k l b (decLt k i) }
-  where
-    go : (k : ℕ) → from ≤ k → k < i + 1 → Dec (k < i) → next ≤ commitTag (rowAt 8 k c)
-    go k l b (yes a) = omega (arith, so-far .each k l a)
-    go k l b (no a) =
-        let e : k ≡ i = omega (arith, a) in
-        rw e here
+least-more {c} {from} {i} next so-far h here =
+    record {
+      own = omega (arith, so-far .own);
+      each = λ k l b. below-more (λ k. from ≤ k → next ≤ commitTag (rowAt 8 k c)) i (λ k b l. omega (arith, so-far .each k l b)) (λ l. here) k b l;
+    }
 
 abbrev Inv-loop : tie.InvT-loop
 Inv-loop commits from entries tag least₀ i₀ least i = LeastTag commits from i tag least
@@ -34,14 +30,11 @@ loop-holds c = record { own = omega arith; each = λ k l b. absurd (omega arith)
 
 loop-again : tie.Need-loop-again Inv-loop μ-loop
 loop-again c =
-    let a = c .before .before .before .before .before .args in
     let loop = c .before .before .before .loop in
     let tag = c .before .commit-tag-at .ensures in
     ⊎-elim
-    (λ w. rw (w .1) (least-more (a .commits .now) (a .from) (loop .i) (a .tag) (loop .least) (c .before .commit-tag-at .result) (loop .inv)
-    (omega (arith, w .0 .taken)) (omega (arith, tag))))
-    (λ w. rw (w .1) (least-more (a .commits .now) (a .from) (loop .i) (a .tag) (loop .least) (loop .least) (loop .inv) (omega arith)
-    (omega (arith, w .0 .left, tag))))
+    (λ w. rw (w .1) (least-more (c .before .commit-tag-at .result) (loop .inv) (omega (arith, w .0 .taken)) (omega (arith, tag))))
+    (λ w. rw (w .1) (least-more (loop .least) (loop .inv) (omega arith) (omega (arith, w .0 .left, tag))))
     (c .if1 .came)
 
 returns : tie.Need-returns Inv-loop μ-loop

@@ -8,22 +8,18 @@ use native.Mathlib.Omega.{arith}
 use borrow.Author.Needs.{needs}
 use Rattle.spec.specs.Rows.{rowAt, commitNumber, commitTag}
 use Rattle.spec.specs.declared.Number.the-variants.{Some}
-use Rattle.spec.specs.Numbers.{upTo}
+use Rattle.spec.specs.Numbers.{atLeast, upTo}
 use Rattle.search.specs.Inner.{Next}
 use Rattle.search.proofs.Folds.{commit-first}
-use Rattle.looks.specs.Inner.{NumberedBelow, atLeast}
-use Rattle.looks.proofs.Recent.{too-small, too-large, in-bounds, Outside, all-outside, first-outside}
+use Rattle.looks.specs.Inner.{NumberedBelow}
+use Rattle.looks.proofs.Recent.{too-small, too-large, in-bounds, Outside, outside-from, all-outside, first-outside}
 use Rattle.looks.proofs.recent_commit.Statement.{statement}
 use Rattle.looks.proofs.recent_commit.Tie as tie
 
 -- the rows before row r, where none from row from on has the tag
 before : (m s tag n from r : ℕ) (c : List ℕ) → NumberedBelow c from m → Next (λ k. commitTag (rowAt 8 k c) ≡ tag) from n r
     → (k : ℕ) → k < r → Outside m s tag n c k
-before m s tag n from r c below pass k b = go (decLt k from)
-  where
-    go : Dec (k < from) → Outside m s tag n c k
-    go (yes a) e = too-small m s (commitNumber (rowAt 8 k c)) (below k a)
-    go (no a) e = absurd (pass .misses k (omega (arith, a)) b e)
+before m s tag n from r c below pass = outside-from m s tag n c below (λ k l b e. absurd (pass .misses k l b e))
 
 returns : tie.Need-returns
 returns c =

@@ -15,9 +15,9 @@ count-cells-requires : tie.Need-count-cells-requires
 count-cells-requires c κs = omega arith
 
 returns : tie.Need-returns
-returns c = λ g s q m b w e.
+returns c = λ g s q m b w e v.
     let a = c .before .before .before .before .before .before .before .before .before .args in
-    rw (c .no-figure .ensures) (image-stays _ _ e _ _ (added-limit _ _ _ _ _ _
+    rw (c .no-figure .ensures) (image-stays _ _ e _ _ _ (added-limit _ _ _ _ _ _ _
     (le-leb (a .h .limit) (cellsOf (getD (a .number .now) (a .client) 0) (dataRowsIn (a .h .used) (a .rows .now)))
     (omega (arith, c .before .before .count-cells .ensures)))))
 

@@ -10,7 +10,7 @@ replace-value-requires : tie.Need-replace-value-requires
 replace-value-requires c κs = (omega arith, c .before .before .before .pre .1 .1 .1)
 
 returns : tie.Need-returns
-returns c = λ g n s q m b w e. replaced-row _ _ e _ _ _ (c .before .before .before .replace-value .ensures _ (c .before .before .before
+returns c = λ g n s q m b w e v. replaced-row _ _ e _ _ _ _ (c .before .before .before .replace-value .ensures _ (c .before .before .before
     .before .before .before .before .pre .1 .1 .0) (omega arith))
 
 pub replace-row-spec : {M : Type 1} → statement M

@@ -9,7 +9,7 @@ use Rattle.queues.proofs.finish.Tie as tie
 
 returns : tie.Need-returns
 unfolding finished decode
-returns c = λ d e. closes _ d e _ _ _ (c .close .ensures)
+returns c = λ d e v. closes _ d e v _ _ _ (c .close .ensures)
 
 pub finish-spec : {M : Type 1} → statement M
 finish-spec = tie.close (tie.spec (λ c κs. search needs) returns)

@@ -9,7 +9,7 @@ use Rattle.queues.proofs.go_on.Tie as tie
 
 returns : tie.Need-returns
 unfolding goOn decode
-returns c = λ n s q m b w d e. ends-same _ d e _ _ _
+returns c = λ n s q m b w d e v. ends-same _ d e v _ _ _
 
 pub go-on-spec : {M : Type 1} → statement M
 go-on-spec = tie.close (tie.spec (λ c. search needs) (λ c. search needs) returns)

@@ -13,7 +13,7 @@ unfolding leaveCommits decode encode
 returns c =
     let a = c .before .before .before .before .args in
     let z : c .before .before .clear-all .result ≡ cleared (a .client) (a .commitWaits .now) = c .before .before .clear-all .ensures in
-    λ n s q m b d e. rw (← z) (c .go-on .ensures _ _ _ _ _ _ d e)
+    λ n s q m b d e v. rw (← z) (c .go-on .ensures _ _ _ _ _ _ d e v)
 
 pub leave-commits-spec : {M : Type 1} → statement M
 leave-commits-spec = tie.close (tie.spec (λ c κs. search needs) (λ c κs. search needs) returns)

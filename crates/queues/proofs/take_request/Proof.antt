@@ -10,11 +10,11 @@ use Rattle.queues.proofs.take_request.Tie as tie
 
 returns : tie.Need-returns
 unfolding takeRequest decode
-returns c = λ n s m b w d e. rw (c .refuse .ensures) (image-stays _ d e _ _ (rw (eq-eqb _ 4294967295 (c .before .if1 .taken))))
+returns c = λ n s m b w d e v. rw (c .refuse .ensures) (image-stays _ d e v _ _ (rw (eq-eqb _ 4294967295 (c .before .if1 .taken))))
 
 returns-2 : tie.Need-returns-2
 unfolding takeRequest decode encode
-returns-2 c = λ n s m b w d e. rw (ne-eqb _ 4294967295 (c .before .before .before .if1 .left)) (c .go-on .ensures _ _ _ _ _ _ d e)
+returns-2 c = λ n s m b w d e v. rw (ne-eqb _ 4294967295 (c .before .before .before .if1 .left)) (c .go-on .ensures _ _ _ _ _ _ d e v)
 
 pub take-request-spec : {M : Type 1} → statement M
 take-request-spec =

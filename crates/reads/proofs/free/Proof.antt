@@ -13,7 +13,7 @@ use Rattle.reads.proofs.free.Statement.{statement}
 use Rattle.reads.proofs.free.Tie as tie
 
 returns : tie.Need-returns
-returns c = λ n s q m b w. ends-unfit _ _ _ _ (sym (c .before .fit .ensures _ _ _ _ _ _) ∙ not-true _ (c .if1 .taken))
+returns c = λ n s q m b w v. ends-unfit _ _ _ _ _ (sym (c .before .fit .ensures _ _ _ _ _ _) ∙ not-true _ (c .if1 .taken))
 
 sub-t10 : tie.Need-sub-t10
 sub-t10 c = let f = fit-of _ _ _ (sym (c .before .before .fit .ensures [] [] [] [] [] []) ∙ not-false _ (c .before .if1 .left)) in omega
@@ -23,7 +23,7 @@ returns-2 : tie.Need-returns-2
 unfolding free decode
 returns-2 c =
     let a = c .before .before .before .before .before .args in
-    λ n s q m b w. settles _ _ _ _ _ _ _ (sym (c .before .before .fit .ensures _ _ _ _ _ _) ∙ not-false _ (c .before .if1 .left)) (rw
+    λ n s q m b w v. settles _ _ _ _ _ _ _ _ (sym (c .before .before .fit .ensures _ _ _ _ _ _) ∙ not-false _ (c .before .if1 .left)) (rw
     (length-rows 24 (a .h .used) (a .rows .now)))
 
 pub free-spec : {M : Type 1} → statement M

@@ -1,85 +1,47 @@
--- `reads::read`: the refusals in the definition's order, then the row that was found.
+-- `reads::read`: a version table of another length is refused; else what was sought, and the number that was found is noted.
 -- Assumes nothing.
-use mathlib.Core.Path.{sym, _∙_}
-use mathlib.Core.List.{[]}
 use native.Mathlib.Omega.{arith}
-use borrow.Author.Tests.{lt-ltb, lt-leb, le-leb, eq-eqb, ne-eqb, not-true, not-false}
-use lib.ListN.{getD}
-use Rattle.spec.specs.Set.{clients}
-use Rattle.spec.specs.Calls.{read}
-use Rattle.spec.specs.Bytes.{decode}
-use Rattle.spec.proofs.Ends.{fit-of, ends-unfit, refuses}
-use Rattle.reads.proofs.Outcomes.{read-found}
+use Rattle.reads.proofs.Outcomes.{unfit-table, sought-seen, sought-refused}
 use borrow.Author.Needs.{needs}
 use Rattle.reads.proofs.read.Statement.{statement}
 use Rattle.reads.proofs.read.Tie as tie
 
 returns : tie.Need-returns
-returns c = λ q m b w. ends-unfit _ _ _ _ (sym (c .before .fit .ensures _ _ _ _ _ _) ∙ not-true _ (c .if1 .taken))
+returns c = λ q m b w. unfit-table _ _ _ _ _ _ (c .if1 .taken)
+
+note-requires : tie.Need-note-requires
+note-requires c κs =
+    let within = rw (c .before .before .sought .given .1) at (c .before .before .before .before .seek .ensures .1) in
+    omega (arith, within, c .before .before .before .before .before .before .before .if1 .left)
 
 returns-2 : tie.Need-returns-2
-unfolding read
 returns-2 c =
-    let a = c .before .before .before .before .before .args in
-    λ q m b w. refuses _ _ _ _ _ (sym (c .before .before .fit .ensures _ _ _ _ _ _) ∙ not-false _ (c .before .if1 .left))
-    (rw (le-leb clients (a .client) (omega arith)))
+    let noted = c .before .before .before .before .before in
+    let told = noted .before .before .before in
+    let sought = told .before .before in
+    let entry = sought .before in
+    λ q m b w. sought-seen _ _ _ _ _ _ (sought .seek .result) (sought .seek .ensures .0 q m b w _ (entry .before .before .if1 .left)
+    (entry .entry-at .ensures)) _ _ _ (told .sought .given .1) (c .before .seen .given .1) (noted .note .ensures)
 
 returns-3 : tie.Need-returns-3
-unfolding read
 returns-3 c =
-    let a = c .before .before .before .before .before .before .args in
-    λ q m b w. refuses _ _ _ _ _ (sym (c .before .before .before .fit .ensures _ _ _ _ _ _) ∙ not-false _ (c .before .before .if1 .left))
-    (rw (lt-leb clients (a .client) (omega arith), le-leb 1024 (a .cell) (omega arith)))
+    let noted = c .before .before .before .before in
+    let told = noted .before .before .before in
+    let sought = told .before .before in
+    let entry = sought .before in
+    λ q m b w. sought-seen _ _ _ _ _ _ (sought .seek .result) (sought .seek .ensures .0 q m b w _ (entry .before .before .if1 .left)
+    (entry .entry-at .ensures)) _ _ _ (told .sought .given .1) (c .enum-told .given .1) (noted .note .ensures)
 
 returns-4 : tie.Need-returns-4
-unfolding read decode
 returns-4 c =
-    let a = c .before .before .before .before .before .before .before .before .args in
-    λ q m b w. refuses _ _ _ _ _ (sym (c .before .before .before .before .before .fit .ensures _ _ _ _ _ _) ∙ not-false _ (c .before
-    .before .before .before .if1 .left))
-    (rw (
-      lt-leb clients (a .client) (omega arith),
-      lt-leb 1024 (a .cell) (omega arith),
-      eq-eqb (getD (a .number .now) (a .client) 0) 0 (omega arith),
-    ))
-
-returns-5 : tie.Need-returns-5
-unfolding read decode
-returns-5 c =
-    let a = c .before .before .before .before .before .before .before .before .before .before .args in
-    λ q m b w. refuses _ _ _ _ _ (sym (c .before .before .before .before .before .before .before .fit .ensures _ _ _ _ _ _) ∙ not-false _
-    (c .before .before .before .before .before .before .if1 .left))
-    (rw (
-      lt-leb clients (a .client) (omega arith),
-      lt-leb 1024 (a .cell) (omega arith),
-      ne-eqb (getD (a .number .now) (a .client) 0) 0 (c .before .before .if4 .left),
-      lt-ltb 11 (getD (a .stage .now) (a .client) 0) (omega arith),
-    ))
-
-look-for-requires : tie.Need-look-for-requires
-look-for-requires c κs = let f = fit-of _ _ _ (sym (c .before .before .before .before .before .before .before .before .before .before
-    .fit .ensures [] [] [] [] [] []) ∙ not-false _ (c .before .before .before .before .before .before .before .before .before .if1
-    .left)) in (omega arith, omega arith)
-
-returns-6 : tie.Need-returns-6
-returns-6 c = λ q m b w. refuses _ _ _ _ _ (sym (c .before .before .before .before .before .before .before .before .before .before
-    .before .before .before .before .fit .ensures _ _ _ _ _ _) ∙ not-false _ (c .before .before .before .before .before .before .before
-    .before .before .before .before .before .before .if1 .left))
-    (read-found _ _ _ _ _ (omega arith) (omega arith) (c .before .before .before .before .before .before .before .before .before .if4
-    .left) (omega arith) _ _ (c .before .seen .given .1) (c .before .before .before .look-for .ensures))
-
-returns-7 : tie.Need-returns-7
-returns-7 c = λ q m b w. refuses _ _ _ _ _ (sym (c .before .before .before .before .before .before .before .before .before .before
-    .before .before .before .fit .ensures _ _ _ _ _ _) ∙ not-false _ (c .before .before .before .before .before .before .before .before
-    .before .before .before .before .if1 .left))
-    (read-found _ _ _ _ _ (omega arith) (omega arith) (c .before .before .before .before .before .before .before .before .if4 .left)
-    (omega arith) _ _ (c .enum-told .given .1) (c .before .before .look-for .ensures))
+    let sought = c .before .before .before in
+    let entry = sought .before in
+    λ q m b w. sought-refused _ _ _ _ _ _ (sought .seek .result) (sought .seek .ensures .0 q m b w _ (entry .before .before .if1 .left)
+    (entry .entry-at .ensures)) _ (c .before .sought2 .given .1)
 
 pub read-spec : {M : Type 1} → statement M
 read-spec =
     tie.close
     (tie.spec
-    (λ c κs. search needs) returns returns-2 returns-3 (λ c. search needs) (λ c. search needs) returns-4 (λ c. search needs) (λ c. search
-    needs)
-    returns-5 (λ c. search needs) (λ c. search needs) (λ c. search needs) (λ c. search needs) look-for-requires (λ c. search needs)
-    (λ c. search needs) returns-6 returns-7)
+    returns (λ c κs. omega (arith, c .before .if1 .left)) (λ c κs. search needs) (λ c. search needs) note-requires (λ c. search needs)
+    (λ c. search needs) (λ c. search needs) (λ c. search needs) returns-2 (λ c. search needs) returns-3 (λ c. search needs) returns-4)

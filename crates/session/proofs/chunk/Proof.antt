@@ -7,7 +7,7 @@ use Rattle.session.proofs.chunk.Statement.{statement}
 use Rattle.session.proofs.chunk.Tie as tie
 
 returns : tie.Need-returns
-returns c = fed-by-value (c .before .before .before .before .before .before .before .before .before .before .before .before .before
+returns c = fed-by-value (c .before .before .before .before .before .before .before .before .before .before .before .before .before .before
     .before .before .before .before .before .head-of .ensures) (sym (c .joined .ensures)) (c .before .before .before .before .before
     .before .before .feed .ensures)
 

@@ -27,12 +27,12 @@ SoFar buf start w₀ out₀ at w out from used =
     (restOf (drop from buf) ≡ restOf (drop start buf)) × ((start < from) ⊎ ((from ≡ start) × (used ≡ at)))
 
 abbrev Inv-loop : tie.InvT-loop
-Inv-loop g₀ n₀ s₀ q₀ m₀ b₀ w₀ buf start rows₀ commits₀ out₀ at h₀ from₀ used₀ g n s q m b w rows commits out h from used =
-    SoFar buf start (memoryOf (whole h₀ (clientsOf g₀ n₀ s₀ q₀ m₀ b₀ w₀)) rows₀ commits₀) out₀ at
-    (memoryOf (whole h (clientsOf g n s q m b w)) rows commits) out from used
+Inv-loop g₀ n₀ s₀ q₀ m₀ b₀ w₀ buf start rows₀ commits₀ v₀ out₀ at h₀ from₀ used₀ g n s q m b w rows commits v out h from used =
+    SoFar buf start (memoryOf (whole h₀ (clientsOf g₀ n₀ s₀ q₀ m₀ b₀ w₀)) rows₀ commits₀ v₀) out₀ at
+    (memoryOf (whole h (clientsOf g n s q m b w)) rows commits v) out from used
 
 abbrev μ-loop : tie.MeasureT-loop
-μ-loop g₀ n₀ s₀ q₀ m₀ b₀ w₀ buf start rows₀ commits₀ out₀ at h₀ from₀ used₀ g n s q m b w rows commits out h from used = length buf - from
+μ-loop g₀ n₀ s₀ q₀ m₀ b₀ w₀ buf start rows₀ commits₀ v₀ out₀ at h₀ from₀ used₀ g n s q m b w rows commits v out h from used = length buf - from
 
 onward : {start from used at e : ℕ} → (start < from) ⊎ ((from ≡ start) × (used ≡ at)) → from ≤ e → start < e + 1
 onward p h = ⊎-elim (λ m. omega arith) (λ m. omega (arith, m .0)) p
@@ -69,9 +69,9 @@ returns-3 c =
 add-from : tie.Need-add-from Inv-loop μ-loop
 add-from c = omega (
   arith,
-  c .before .before .before .before .before .before .before .before .before .before .before .before .before
+  c .before .before .before .before .before .before .before .before .before .before .before .before .before .before
       .before .before .before .before .before .before .if3 .left,
-  c .before .before .before .before .before .before .before .before .before
+  c .before .before .before .before .before .before .before .before .before .before
       .before .before .before .before .before .before .before .before .before .before .before .before .before .before .before .before
       .before .before .before .before .good .1 .1 .1 .1 .1 .1 .1 .1 .0 .0,
 )
@@ -79,48 +79,48 @@ add-from c = omega (
 loop-less : tie.Need-loop-less Inv-loop μ-loop
 loop-less c = omega (
   arith,
-  c .before .before .before .before .before .before .before .before .before .before .before .before .before
+  c .before .before .before .before .before .before .before .before .before .before .before .before .before .before
       .before .before .before .before .before .before .before .newline .ensures .1 .0,
-  c .before .before .before .before .before .before
+  c .before .before .before .before .before .before .before
       .before .before .before .before .before .before .before .before .before .before .before .before .before .before .before .before
       .before .loop-test .taken,
 )
 
 loop-again : tie.Need-loop-again Inv-loop μ-loop
 loop-again c =
-    let l = c .before .before .before .before .before .before .before .before .before .before .before .before .before .before .before
+    let l = c .before .before .before .before .before .before .before .before .before .before .before .before .before .before .before .before
     .before .before .before .before .before .before .before .before .before .loop in
-    let n = c .before .before .before .before .before .before .before .before .before .before .before .before .before .before .before
+    let n = c .before .before .before .before .before .before .before .before .before .before .before .before .before .before .before .before
     .before .before .before .before .before .newline in
-    let s = c .before .before .before .before .before .before .before .before .before .before .before .before .before .before .before
+    let s = c .before .before .before .before .before .before .before .before .before .before .before .before .before .before .before .before
     .before .before .before .before .before .before .before .before .before .before .before .before .before .before .args .buf .now in
     let t = c .before .before .before .before .before .before .before .answer-line in
     let h : n .result < length s = omega (
       arith,
-      c .before .before .before .before .before .before .before .before .before .before
+      c .before .before .before .before .before .before .before .before .before .before .before
           .before .before .before .before .before .before .before .before .before .if3 .left,
     ) in
     let w = memoryOf (whole (l .next) (clientsOf (l .stage) (l .number) (l .snapshot) (l .request) (l .commit) (l .requestWaits) (l
     .commitWaits)))
-    (l .rows) (l .commits) in
+    (l .rows) (l .commits) (l .versions) in
     let k = t .last .1 in
     let w′ = memoryOf (whole (t .result .head) (clientsOf (k .0) (k .1 .0) (k .1 .1 .0) (k .1 .1 .1 .0) (k .1 .1 .1 .1 .0) (k .1 .1 .1 .1
     .1 .0)
-    (k .1 .1 .1 .1 .1 .1 .0))) (k .1 .1 .1 .1 .1 .1 .1 .1 .0) (k .1 .1 .1 .1 .1 .1 .1 .1 .1 .0) in
-    let out′ = k .1 .1 .1 .1 .1 .1 .1 .1 .1 .1 .0 in
+    (k .1 .1 .1 .1 .1 .1 .0))) (k .1 .1 .1 .1 .1 .1 .1 .1 .0) (k .1 .1 .1 .1 .1 .1 .1 .1 .1 .0) (k .1 .1 .1 .1 .1 .1 .1 .1 .1 .1 .0) in
+    let out′ = k .1 .1 .1 .1 .1 .1 .1 .1 .1 .1 .1 .0 in
     let size = t .kept .1 .1 .1 .1 .1 .1 .1 .1 .1 in (
       omega (arith, h),
       omega (
         arith,
         t .ensures .room,
-        size .1 .1 .0,
-        c .before .before .before .before .before .before .before .before .before .before
+        size .1 .1 .1 .0,
+        c .before .before .before .before .before .before .before .before .before .before .before
             .before .before .before .before .before .before .before .before .before .before .before .if2 .left,
-        c .before .before .before
+        c .before .before .before .before
             .before .before .before .before .before .before .before .before .before .before .before .before .before .before .before
             .before .before .before .before .if1 .left,
       ),
-      size .1 .1 .0 ∙ l .inv .2,
+      size .1 .1 .1 .0 ∙ l .inv .2,
       size .0 ∙ l .inv .3,
       size .1 .0 ∙ l .inv .4,
       text-more s (l .from) (n .result) (n .ensures .0) (n .ensures .1 .0) h w w′ (l .out) out′ (l .used) (t .result .used) (t .ensures)

@@ -13,16 +13,16 @@ use Rattle.step.proofs.drain.Statement.{statement}
 use Rattle.step.proofs.drain.Tie as tie
 
 abbrev Inv-loop : tie.InvT-loop
-Inv-loop buf rows₀ commits₀ out₀ s₀ from₀ rows commits out s from =
+Inv-loop buf rows₀ commits₀ versions₀ out₀ s₀ from₀ rows commits versions out s from =
     (from ≤ length buf)
     × (length out ≡ length out₀)
     × (length rows ≡ length rows₀)
     × (length commits ≡ length commits₀)
-    × (memoryAfter (memoryOf s rows commits) (linesOf (drop from buf)) ≡ memoryAfter (memoryOf s₀ rows₀ commits₀) (linesOf buf))
+    × (memoryAfter (memoryOf s rows commits versions) (linesOf (drop from buf)) ≡ memoryAfter (memoryOf s₀ rows₀ commits₀ versions₀) (linesOf buf))
     × (restOf (drop from buf) ≡ restOf buf)
 
 abbrev μ-loop : tie.MeasureT-loop
-μ-loop buf rows₀ commits₀ out₀ s₀ from₀ rows commits out s from = length buf - from
+μ-loop buf rows₀ commits₀ versions₀ out₀ s₀ from₀ rows commits versions out s from = length buf - from
 
 loop-holds : tie.Need-loop-holds Inv-loop μ-loop
 loop-holds c = (omega arith, refl, refl, refl, refl, refl)
@@ -32,20 +32,21 @@ returns c = (search needs, λ e. failed e)
 
 returns-2 : tie.Need-returns-2 Inv-loop μ-loop
 returns-2 c =
-    let l = c .before .before .before .before .before .before .before .before .before .before .before .before .before .before .before .before .loop in
+    let l = c .before .before .before .before .before .before .before .before .before .before .before .before .before .before .before
+    .before .before .loop in
     let k = c .before .before .before .before .before .before .before .before .before .before .before .chunk in
-    let a = c .before .before .before .before .before .before .before .before .before .before .before .before .before .before .before
+    let a = c .before .before .before .before .before .before .before .before .before .before .before .before .before .before .before .before
     .before .before .before .before .before .before .args in
-    let w₀ = memoryOf (a .store) (a .rows .now) (a .commits .now) in
-    let w = memoryOf (l .s) (l .rows) (l .commits) in
-    let out′ = k .last .1 .1 .1 .1 .1 .0 in
-    let w′ = memoryOf (k .result .store) (k .last .1 .1 .1 .0) (k .last .1 .1 .1 .1 .0) in
+    let w₀ = memoryOf (a .store) (a .rows .now) (a .commits .now) (a .versions .now) in
+    let w = memoryOf (l .s) (l .rows) (l .commits) (l .versions) in
+    let out′ = k .last .1 .1 .1 .1 .1 .1 .0 in
+    let w′ = memoryOf (k .result .store) (k .last .1 .1 .1 .0) (k .last .1 .1 .1 .1 .0) (k .last .1 .1 .1 .1 .1 .0) in
     let same : length (l .out) ≡ length (a .out .now) = l .inv .1 in
     let room : 90 ≤ length out′ = omega (
       arith,
       same,
-      k .kept .1 .1 .1 .1 .1 .0,
-      c .before .before .before .before .before .before .before .before .before .before .before .before .before .before .before
+      k .kept .1 .1 .1 .1 .1 .1 .0,
+      c .before .before .before .before .before .before .before .before .before .before .before .before .before .before .before .before
           .before .before .before .before .before .before .pre,
     ) in (
       search needs,
@@ -55,7 +56,8 @@ returns-2 c =
 
 loop-again : tie.Need-loop-again Inv-loop μ-loop
 loop-again c =
-    let l = c .before .before .before .before .before .before .before .before .before .before .before .before .before .before .before .before .loop in
+    let l = c .before .before .before .before .before .before .before .before .before .before .before .before .before .before .before
+    .before .before .loop in
     let k = c .before .before .before .before .before .before .before .before .before .before .before .chunk in
     (k .ensures .within, search needs, search needs, search needs, k .ensures .state ∙ l .inv .4, k .ensures .rest ∙ l .inv .5)
 
@@ -63,8 +65,8 @@ returns-3 : tie.Need-returns-3 Inv-loop μ-loop
 returns-3 c =
     let l = c .before .loop in
     let a = c .before .before .before .before .before .before .args in
-    let w₀ = memoryOf (a .store) (a .rows .now) (a .commits .now) in
-    let w = memoryOf (l .s) (l .rows) (l .commits) in
+    let w₀ = memoryOf (a .store) (a .rows .now) (a .commits .now) (a .versions .now) in
+    let w = memoryOf (l .s) (l .rows) (l .commits) (l .versions) in
     (l .inv .0, λ e. ended (a .buf .now) w₀ w (l .from) (l .inv .4) (l .inv .5) (l .inv .0) (c .loop-test .left))
 
 pub drain-spec : {M : Type 1} → statement M

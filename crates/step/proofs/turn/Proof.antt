@@ -21,7 +21,7 @@ returns : tie.Need-returns
 returns c =
     let start = c .before .before .before .before .before .before in
     let r = c .before .before .before .read-after in
-    let w = memoryOf (start .args .store) (start .args .rows .now) (start .args .commits .now) in
+    let w = memoryOf (start .args .store) (start .args .rows .now) (start .args .commits .now) (start .args .versions .now) in
     let k = take (start .args .have) (start .args .buf .now) in
     let k′ = take (start .args .have) (r .last .0) in
     let t : Turns false w k w k′ = (refl, r .ensures .1) in
@@ -30,16 +30,16 @@ returns c =
 -- a chunk has come
 returns-2 : tie.Need-returns-2
 returns-2 c =
-    let start = c .before .before .before .before .before .before .before .before .before .before .before .before .before in
-    let r = c .before .before .before .before .before .before .before .before .before .before .read-after in
+    let start = c .before .before .before .before .before .before .before .before .before .before .before .before .before .before in
+    let r = c .before .before .before .before .before .before .before .before .before .before .before .read-after in
     let d = c .before .before .drain in
     let k = c .keep in
     let n = r .result in
     let a = start .args in
-    let on : a .have < n = omega (arith, r .ensures .0 .0, c .before .before .before .before .before .before .before .if1 .left) in
+    let on : a .have < n = omega (arith, r .ensures .0 .0, c .before .before .before .before .before .before .before .before .if1 .left) in
     let within : d .result .from ≤ n = omega (arith, simp length-take at (d .ensures .0)) in
-    let w = memoryOf (a .store) (a .rows .now) (a .commits .now) in
-    let w′ = memoryOf (d .result .store) (d .last .1 .1 .0) (d .last .1 .1 .1 .0) in
+    let w = memoryOf (a .store) (a .rows .now) (a .commits .now) (a .versions .now) in
+    let w′ = memoryOf (d .result .store) (d .last .1 .1 .0) (d .last .1 .1 .1 .0) (d .last .1 .1 .1 .1 .0) in
     let chunk = came (a .buf .now) (r .last .0) (k .last .0) (a .have) n (d .result .from) (k .result) (r .ensures .1) on (r .ensures .0 .1) w w′ in
     let t : d .result .fine ≡ true → Came w (take (a .have) (a .buf .now)) w′ (take (k .result) (k .last .0)) = λ e. chunk within
     (d .ensures .1 e) (k .ensures .0) in

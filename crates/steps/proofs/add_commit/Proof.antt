@@ -10,13 +10,13 @@ use Rattle.steps.proofs.add_commit.Statement.{statement}
 use Rattle.steps.proofs.add_commit.Tie as tie
 
 returns : tie.Need-returns
-returns c = λ s q b w d. rw (c .refuse .ensures) (image-stays _ d _ _ _ (commit-full _ d _ _ (omega arith)))
+returns c = λ s q b w d v. rw (c .refuse .ensures) (image-stays _ d _ v _ _ (commit-full _ d _ v _ (omega arith)))
 
 returns-2 : tie.Need-returns-2
 returns-2 c =
     let a = c .before .before .before .before .before .before .before .before .before .before .before .args in
-    λ s q b w d. commit-added (whole (a .h) (clientsOf (a .stage .now) (a .number .now) s q (a .commit .now) b w)) d (a .commits .now) (a
-    .client) _
+    λ s q b w d v. commit-added (whole (a .h) (clientsOf (a .stage .now) (a .number .now) s q (a .commit .now) b w)) d (a .commits .now) v
+    (a .client) _
     (omega arith) (c .before .before .before .append-commit .ensures)
 
 pub add-commit-spec : {M : Type 1} → statement M

@@ -8,13 +8,13 @@ use Rattle.steps.proofs.check.Statement.{statement}
 use Rattle.steps.proofs.check.Tie as tie
 
 returns : tie.Need-returns
-returns c = removed-ends _ _ _ _ _ _ _ (c .before .before .remove .ensures) ∙ ap (encode _ _ _)
-    (check-found _ _ _ _ _ (sym (c .before .before .before .before .before .before .before .before .before .before .before .before .found
+returns c = λ v. removed-ends _ _ _ _ _ v _ _ (c .before .before .remove .ensures) ∙ ap (encode _ _ _)
+    (check-found _ _ _ v _ _ (sym (c .before .before .before .before .before .before .before .before .before .before .before .before .found
     .given .1) ∙ c .before .before .before .before .before .before .before .before .before .before .before .before .before .before
     .conflict .ensures))
 
 returns-2 : tie.Need-returns-2
-returns-2 c = c .go-on .ensures _ _ _ _ _ _ _ _ ∙ ap (encode _ _ _) (check-found _ _ _ _ _
+returns-2 c = λ v. c .go-on .ensures _ _ _ _ _ _ _ _ v ∙ ap (encode _ _ _) (check-found _ _ _ v _ _
     (sym (c .before .before .enum-told .given .1) ∙ c .before .before .before .before .conflict .ensures))
 
 pub check-spec : {M : Type 1} → statement M

@@ -11,14 +11,14 @@ returns : tie.Need-returns
 unfolding enter decode
 returns c =
     let t = c .before .before .before .before .before .before .before .before .before .before .has-rows in
-    λ e. rw (← t .ensures, not-true (t .result) (c .before .before .before .before .before .before .before .before .before .if1 .taken))
-    (c .finish .ensures _ e)
+    λ e v. rw (← t .ensures, not-true (t .result) (c .before .before .before .before .before .before .before .before .before .if1 .taken))
+    (c .finish .ensures _ e v)
 
 returns-2 : tie.Need-returns-2
 unfolding enter decode
 returns-2 c =
     let t = c .before .before .before .has-rows in
-    λ e. rw (← t .ensures, not-false (t .result) (c .before .before .if1 .left)) (c .go-on .ensures _ _ _ _ _ _ _ e)
+    λ e v. rw (← t .ensures, not-false (t .result) (c .before .before .if1 .left)) (c .go-on .ensures _ _ _ _ _ _ _ e v)
 
 pub enter-spec : {M : Type 1} → statement M
 enter-spec =

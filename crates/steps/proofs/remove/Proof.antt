@@ -33,8 +33,8 @@ returns c =
     let r = c .before .before .before .before .before .before .before .before .before .before .remove-rows in
     let s = whole (a .h) (columnsNow (a .stage) (a .number) (a .snapshot) (a .request) (a .commit) (a .requestWaits) (a .commitWaits)) in
     record {
-      store = λ e. removed-store s (a .rows .now) e (a .client) _ _ (c .close .ensures) (r .ensures .rows);
-      bytes = λ e. r .ensures .bytes;
+      store = λ e v. removed-store s (a .rows .now) e v (a .client) _ _ (c .close .ensures) (r .ensures .rows);
+      bytes = λ e v. r .ensures .bytes;
     }
 
 pub remove-spec : {M : Type 1} → statement M

@@ -8,10 +8,10 @@ use Rattle.store.proofs.abandon.Statement.{statement}
 use Rattle.store.proofs.abandon.Tie as tie
 
 returns : tie.Need-returns
-returns c = by-value (abandon (c .before .before .before .before .before .before .before .before .before .before .before .before .before
-    .before .before .before .before .before .before .before .before .before .args .client)) _ _ (c .before .before .before .before
+returns c = λ v. by-value (abandon (c .before .before .before .before .before .before .before .before .before .before .before .before .before
+    .before .before .before .before .before .before .before .before .before .args .client)) _ _ v (c .before .before .before .before
     .before .before .before .before .before .before .before .before .head-of .ensures) (sym (c .joined .ensures)) (c .before .before
-    .before .abandon .ensures)
+    .before .abandon .ensures v)
 
 pub abandon-spec : {M : Type 1} → statement M
 abandon-spec = tie.close (tie.spec (λ c κs. search needs) (λ c κs. search needs) (λ c κs. search needs) (λ c. search needs) returns)

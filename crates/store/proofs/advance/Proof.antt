@@ -8,10 +8,10 @@ use Rattle.store.proofs.advance.Statement.{statement}
 use Rattle.store.proofs.advance.Tie as tie
 
 returns : tie.Need-returns
-returns c = by-value (advance (c .before .before .before .before .before .before .before .before .before .before .before .before .before
-    .before .before .before .before .before .before .before .before .before .before .before .before .args .client)) _ _ (c .before
+returns c = λ v. by-value (advance (c .before .before .before .before .before .before .before .before .before .before .before .before .before
+    .before .before .before .before .before .before .before .before .before .before .before .before .args .client)) _ _ v (c .before
     .before .before .before .before .before .before .before .before .before .before .before .before .before .before .head-of
-    .ensures) (sym (c .joined .ensures)) (c .before .before .before .before .before .advance .ensures)
+    .ensures) (sym (c .joined .ensures)) (c .before .before .before .before .before .advance .ensures v)
 
 pub advance-spec : {M : Type 1} → statement M
 advance-spec =

@@ -8,9 +8,9 @@ use Rattle.store.proofs.begin.Statement.{statement}
 use Rattle.store.proofs.begin.Tie as tie
 
 returns : tie.Need-returns
-returns c = by-value (begin (c .before .before .before .before .before .before .before .before .before .before .before .before .before
-    .before .before .before .before .before .before .args .client)) _ _ (c .before .before .before .before .before .before .before
-    .before .before .head-of .ensures) (sym (c .joined .ensures)) (c .before .begin .ensures)
+returns c = λ v. by-value (begin (c .before .before .before .before .before .before .before .before .before .before .before .before .before
+    .before .before .before .before .before .before .args .client)) _ _ v (c .before .before .before .before .before .before .before
+    .before .before .head-of .ensures) (sym (c .joined .ensures)) (c .before .begin .ensures v)
 
 pub begin-spec : {M : Type 1} → statement M
 begin-spec = tie.close (tie.spec (λ c κs. search needs) (λ c κs. search needs) (λ c κs. search needs) returns)

@@ -1,4 +1,4 @@
--- `store::lookup`: the value that the answer names.
+-- `store::lookup`: the value that the answer names, and the version table that the read leaves.
 -- Assumes nothing.
 use mathlib.Core.Path.{ap}
 use borrow.Author.Needs.{needs}
@@ -44,23 +44,23 @@ part-result-end-2 c = search needs
 
 returns : tie.Need-returns
 unfolding valueFrom
-returns c = rw (
-  ← ap (λ o. o .answer) (c .before .before .before .before .before .before .before .read .ensures),
-  c .before .before .before .before .before .answer .given .1,
-  c .before .before .reading .given .1,
-) (c .value .ensures)
+returns c =
+    let o = c .before .before .before .before .before .before .before .before .before .read .ensures in (
+      rw (← ap (λ o. o .answer) o, c .before .before .before .before .before .answer .given .1, c .before .before .reading .given .1) (c .value .ensures),
+      ap (λ o. o .memory .versions) o,
+    )
 
 returns-2 : tie.Need-returns-2
 unfolding valueFrom
-returns-2 c = rw (
-  ← ap (λ o. o .answer) (c .before .before .before .before .before .before .read .ensures),
-  c .before .before .before .before .answer .given .1,
-  c .before .enum-told .given .1,
-)
+returns-2 c =
+    let o = c .before .before .before .before .before .before .before .before .read .ensures in
+    (rw (← ap (λ o. o .answer) o, c .before .before .before .before .answer .given .1, c .before .enum-told .given .1), ap (λ o. o .memory .versions) o)
 
 returns-3 : tie.Need-returns-3
 unfolding valueFrom
-returns-3 c = rw (← ap (λ o. o .answer) (c .before .before .before .read .ensures), c .before .enum-told2 .given .1)
+returns-3 c =
+    let o = c .before .before .before .before .before .read .ensures in
+    (rw (← ap (λ o. o .answer) o, c .before .enum-told2 .given .1), ap (λ o. o .memory .versions) o)
 
 pub lookup-spec : {M : Type 1} → statement M
 lookup-spec =
@@ -78,6 +78,9 @@ lookup-spec =
     sub-result-2
     part-result-start-2
     part-result-end-2
+    (λ c. search needs)
     returns
+    (λ c. search needs)
     returns-2
+    (λ c. search needs)
     returns-3)

@@ -8,8 +8,8 @@ use Rattle.store.proofs.trim.Statement.{statement}
 use Rattle.store.proofs.trim.Tie as tie
 
 returns : tie.Need-returns
-returns c = by-value trim _ _ (c .before .before .before .before .before .before .before .before .before .before .before .head-of
-    .ensures) (sym (c .renumbered .ensures)) (c .before .before .before .before .before .trim .ensures _ _ _ _)
+returns c = λ v. by-value trim _ _ v (c .before .before .before .before .before .before .before .before .before .before .before .head-of
+    .ensures) (sym (c .renumbered .ensures)) (c .before .before .before .before .before .trim .ensures _ _ _ _ v)
 
 pub trim-spec : {M : Type 1} → statement M
 trim-spec =

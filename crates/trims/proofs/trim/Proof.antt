@@ -14,8 +14,8 @@ use Rattle.trims.proofs.trim.Statement.{statement}
 use Rattle.trims.proofs.trim.Tie as tie
 
 returns : tie.Need-returns
-returns c = λ q m b w. rw (c .no-figure .ensures) (ends-unfit _ _ _ _ (sym (c .before .before .fit .ensures _ _ _ _ _ _) ∙ not-true _ (c
-    .before .if1 .taken)))
+returns c = λ q m b w v. rw (c .no-figure .ensures)
+    (ends-unfit _ _ _ _ _ (sym (c .before .before .fit .ensures _ _ _ _ _ _) ∙ not-true _ (c .before .if1 .taken)))
 
 trim-by-requires : tie.Need-trim-by-requires
 trim-by-requires c κs =
@@ -35,12 +35,13 @@ returns-2 c =
     let looked = c .before .before .before .before .before .before .before .before in
     let tested = looked .before in
     let a = tested .before .before .before .before .args in
-    λ q m b w.
-    goes _ _ _ _ (sym (tested .before .fit .ensures _ _ _ _ _ _) ∙ not-false _ (tested .if1 .left))
+    λ q m b w v.
+    goes _ _ _ _ _ (sym (tested .before .fit .ensures _ _ _ _ _ _) ∙ not-false _ (tested .if1 .left))
     (c .before .before .before .before .trim-by .ensures (a .stage .now) (a .number .now) (a .snapshot .now) q m b w
-    (low-open (decode (whole (a .h) (clientsOf (a .stage .now) (a .number .now) (a .snapshot .now) q m b w)) (a .rows .now) (a .commits .now))
+    (λ u. low-open
+    (decode (whole (a .h) (clientsOf (a .stage .now) (a .number .now) (a .snapshot .now) q m b w)) (a .rows .now) (a .commits .now) u)
     (looked .smallest-open .result) (looked .smallest-open .ensures _ refl refl)
-    (omega (arith, c .before .before .before .before .before .before .before .if2 .taken))))
+    (omega (arith, c .before .before .before .before .before .before .before .if2 .taken))) v)
 
 returns-3 : tie.Need-returns-3
 unfolding decode
@@ -48,12 +49,13 @@ returns-3 c =
     let looked = c .before .before .before .before .before .before .before .before in
     let tested = looked .before in
     let a = tested .before .before .before .before .args in
-    λ q m b w.
-    goes _ _ _ _ (sym (tested .before .fit .ensures _ _ _ _ _ _) ∙ not-false _ (tested .if1 .left))
+    λ q m b w v.
+    goes _ _ _ _ _ (sym (tested .before .fit .ensures _ _ _ _ _ _) ∙ not-false _ (tested .if1 .left))
     (c .before .before .before .before .trim-by2 .ensures (a .stage .now) (a .number .now) (a .snapshot .now) q m b w
-    (low-none (decode (whole (a .h) (clientsOf (a .stage .now) (a .number .now) (a .snapshot .now) q m b w)) (a .rows .now) (a .commits .now))
+    (λ u. low-none
+    (decode (whole (a .h) (clientsOf (a .stage .now) (a .number .now) (a .snapshot .now) q m b w)) (a .rows .now) (a .commits .now) u)
     (looked .smallest-open .result) (looked .smallest-open .ensures _ refl refl)
-    (omega (arith, c .before .before .before .before .before .before .before .if2 .left))))
+    (omega (arith, c .before .before .before .before .before .before .before .if2 .left))) v)
 
 pub trim-spec : {M : Type 1} → statement M
 trim-spec =

@@ -28,7 +28,7 @@ sub-t15 c =
 returns : tie.Need-returns
 returns c =
     let a = c .before .before .before .before .before .before .before .before .before .before .before .before .before .before .args in
-    λ g n s q m b w e. trim-ends (whole (a .h) (clientsOf g n s q m b w)) _ _ (a .lowest) _ _ _ _ e
+    λ g n s q m b w e v. trim-ends (whole (a .h) (clientsOf g n s q m b w)) _ _ v (a .lowest) _ _ _ _ (e v)
     (c .before .before .before .before .before .before .before .trim .ensures)
 
 pub trim-by-spec : {M : Type 1} → statement M

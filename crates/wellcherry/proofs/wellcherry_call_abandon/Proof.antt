@@ -13,8 +13,8 @@ returns c =
     .before .before .before .before .args in
     let found = c .before .before .before .before .before .before .before .before .before .before .before .before .before .before .before
     .head-in in
-    rw (← found .ensures, c .before .put-head .ensures)
-    (retold figureTold (abandon (args .client)) _ _ _ (c .before .before .before .before .before .before .abandon .ensures) (c
+    λ v. rw (← found .ensures, c .before .put-head .ensures)
+    (retold figureTold (abandon (args .client)) _ _ _ v (c .before .before .before .before .before .before .abandon .ensures v) (c
     .figure-told .ensures))
 
 pub wellcherry-call-abandon-spec : {M : Type 1} → statement M

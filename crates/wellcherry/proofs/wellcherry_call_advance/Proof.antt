@@ -13,9 +13,9 @@ returns c =
     .before .before .before .before .before .before .before .args in
     let found = c .before .before .before .before .before .before .before .before .before .before .before .before .before .before .before
     .before .before .before .head-in in
-    rw (← found .ensures, c .before .put-head .ensures)
-    (retold advanceTold (advance (args .client)) _ _ _ (c .before .before .before .before .before .before .before .before .advance
-    .ensures) (c .advance-told .ensures))
+    λ v. rw (← found .ensures, c .before .put-head .ensures)
+    (retold advanceTold (advance (args .client)) _ _ _ v (c .before .before .before .before .before .before .before .before .advance
+    .ensures v) (c .advance-told .ensures))
 
 pub wellcherry-call-advance-spec : {M : Type 1} → statement M
 wellcherry-call-advance-spec = tie.close (tie.spec (λ c κs. search needs) (λ c κs. search needs) (λ c κs. search needs) (λ c κs. search

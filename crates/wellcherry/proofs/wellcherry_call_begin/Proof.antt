@@ -12,8 +12,8 @@ returns c =
     let args = c .before .before .before .before .before .before .before .before .before .before .before .before .before .before .before
     .before .args in
     let found = c .before .before .before .before .before .before .before .before .before .before .before .before .head-in in
-    rw (← found .ensures, c .before .put-head .ensures)
-    (retold beginTold (begin (args .client)) _ _ _ (c .before .before .before .before .begin .ensures) (c .begin-told .ensures))
+    λ v. rw (← found .ensures, c .before .put-head .ensures)
+    (retold beginTold (begin (args .client)) _ _ _ v (c .before .before .before .before .begin .ensures v) (c .begin-told .ensures))
 
 pub wellcherry-call-begin-spec : {M : Type 1} → statement M
 wellcherry-call-begin-spec = tie.close (tie.spec (λ c κs. search needs) (λ c κs. search needs) (λ c κs. search needs) (λ c κs. search

@@ -9,10 +9,10 @@ use Rattle.wellcherry.proofs.wellcherry_call_read.Tie as tie
 
 returns : tie.Need-returns
 returns c =
-    let args = c .before .before .before .before .before .args in
-    let found = c .before .before .head-in in
+    let args = c .before .before .before .before .before .before .before .before .before .args in
+    let found = c .before .before .before .before .before .head-in in
     λ q m b w. rw (← found .ensures)
-    (retold readTold (read (args .client) (args .cell)) _ _ _ (c .before .read .ensures q m b w) (c .read-told .ensures))
+    (retold readTold (read (args .client) (args .cell)) _ _ _ _ (c .before .before .before .read .ensures q m b w) (c .read-told .ensures))
 
 pub wellcherry-call-read-spec : {M : Type 1} → statement M
-wellcherry-call-read-spec = tie.close (tie.spec (λ c κs. search needs) (λ c κs. search needs) (λ c κs. search needs) returns)
+wellcherry-call-read-spec = tie.close (tie.spec (λ c κs. search needs) (λ c κs. search needs) (λ c κs. search needs) (λ c. search needs) returns)

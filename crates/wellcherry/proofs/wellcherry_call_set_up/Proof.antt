@@ -7,8 +7,8 @@ use Rattle.wellcherry.proofs.wellcherry_call_set_up.Tie as tie
 
 returns : tie.Need-returns
 returns c =
-    let args = c .before .before .before .before .before .before .before .before .before .before .before .before .before .before .before
-    .before .before .before .before .before .args in
+    let args = c .before .before .before .before .before .before .before .before .before .before .before .before .before
+    .before .before .before .before .before .before .before .before .args in
     let made = c .before .before .before .before .before .before .before .before .set-up-in in
     rw (c .before .put-head .ensures) (set-up-retold _ _ (args .first) (args .limit) (made .ensures) (c .figure-told .ensures))
 

@@ -10,8 +10,8 @@ use Rattle.wellcherry.proofs.wellcherry_call_trim.Tie as tie
 returns : tie.Need-returns
 returns c =
     let found = c .before .before .before .before .before .before .before .before .before .before .before .head-in in
-    λ q m b w. rw (← found .ensures, c .before .put-head .ensures)
-    (retold figureTold (trim) _ _ _ (c .before .before .before .before .before .before .before .before .trim .ensures q m b w) (c
+    λ q m b w v. rw (← found .ensures, c .before .put-head .ensures)
+    (retold figureTold (trim) _ _ _ v (c .before .before .before .before .before .before .before .before .trim .ensures q m b w v) (c
     .figure-told .ensures))
 
 pub wellcherry-call-trim-spec : {M : Type 1} → statement M

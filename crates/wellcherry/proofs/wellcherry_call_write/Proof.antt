@@ -11,9 +11,9 @@ returns : tie.Need-returns
 returns c =
     let args = c .before .before .before .before .before .before .before .before .before .before .before .before .before .args in
     let found = c .before .before .before .before .before .before .before .before .head-in in
-    λ s q m b w. rw (← found .ensures, c .before .put-head .ensures)
-    (retold figureTold (write (args .client) (args .cell) (args .value .now)) _ _ _ (c .before .before .before .before .before .before
-    .write .ensures s q m b w) (c .figure-told .ensures))
+    λ s q m b w v. rw (← found .ensures, c .before .put-head .ensures)
+    (retold figureTold (write (args .client) (args .cell) (args .value .now)) _ _ _ v (c .before .before .before .before .before .before
+    .write .ensures s q m b w v) (c .figure-told .ensures))
 
 pub wellcherry-call-write-spec : {M : Type 1} → statement M
 wellcherry-call-write-spec = tie.close (tie.spec (λ c κs. search needs) (λ c κs. search needs) (λ c κs. search needs) (λ c κs. search

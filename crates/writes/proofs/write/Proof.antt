@@ -22,14 +22,14 @@ use Rattle.writes.proofs.write.Statement.{statement}
 use Rattle.writes.proofs.write.Tie as tie
 
 returns : tie.Need-returns
-returns c = λ s q m b w. rw (c .no-figure .ensures) (ends-unfit _ _ _ _ (sym (c .before .before .fit .ensures _ _ _ _ _ _) ∙ not-true _
+returns c = λ s q m b w v. rw (c .no-figure .ensures) (ends-unfit _ _ _ _ _ (sym (c .before .before .fit .ensures _ _ _ _ _ _) ∙ not-true _
     (c .before .if1 .taken)))
 
 returns-2 : tie.Need-returns-2
 unfolding write
 returns-2 c =
     let a = c .before .before .before .before .before .before .before .args in
-    λ s q m b w. rw (c .no-figure2 .ensures) (refuses _ _ _ _ _ (sym (c .before .before .before .fit .ensures _ _ _ _ _ _) ∙ not-false _
+    λ s q m b w v. rw (c .no-figure2 .ensures) (refuses _ _ _ _ _ _ (sym (c .before .before .before .fit .ensures _ _ _ _ _ _) ∙ not-false _
     (c .before .before .if1 .left))
     (rw (le-leb clients (a .client) (omega arith))))
 
@@ -37,7 +37,7 @@ returns-3 : tie.Need-returns-3
 unfolding write
 returns-3 c =
     let a = c .before .before .before .before .before .before .before .before .args in
-    λ s q m b w. rw (c .no-figure3 .ensures) (refuses _ _ _ _ _ (sym (c .before .before .before .before .fit .ensures _ _ _ _ _ _) ∙
+    λ s q m b w v. rw (c .no-figure3 .ensures) (refuses _ _ _ _ _ _ (sym (c .before .before .before .before .fit .ensures _ _ _ _ _ _) ∙
     not-false _ (c .before .before .before .if1 .left))
     (rw (lt-leb clients (a .client) (omega arith), le-leb 1024 (a .cell) (omega arith))))
 
@@ -45,7 +45,7 @@ returns-4 : tie.Need-returns-4
 unfolding write
 returns-4 c =
     let a = c .before .before .before .before .before .before .before .before .before .args in
-    λ s q m b w. rw (c .no-figure4 .ensures) (refuses _ _ _ _ _ (sym (c .before .before .before .before .before .fit .ensures _ _ _ _ _
+    λ s q m b w v. rw (c .no-figure4 .ensures) (refuses _ _ _ _ _ _ (sym (c .before .before .before .before .before .fit .ensures _ _ _ _ _
     _) ∙ not-false _ (c .before .before .before .before .if1 .left))
     (rw (
       lt-leb clients (a .client) (omega arith),
@@ -57,7 +57,7 @@ returns-5 : tie.Need-returns-5
 unfolding write decode
 returns-5 c =
     let a = c .before .before .before .before .before .before .before .before .before .before .before .args in
-    λ s q m b w. rw (c .no-figure5 .ensures) (refuses _ _ _ _ _ (sym (c .before .before .before .before .before .before .before .fit
+    λ s q m b w v. rw (c .no-figure5 .ensures) (refuses _ _ _ _ _ _ (sym (c .before .before .before .before .before .before .before .fit
     .ensures _ _ _ _ _ _) ∙ not-false _ (c .before .before .before .before .before .before .if1 .left))
     (rw (
       lt-leb clients (a .client) (omega arith),
@@ -70,7 +70,7 @@ returns-6 : tie.Need-returns-6
 unfolding write decode
 returns-6 c =
     let a = c .before .before .before .before .before .before .before .before .before .before .before .before .before .args in
-    λ s q m b w. rw (c .no-figure6 .ensures) (refuses _ _ _ _ _ (sym (c .before .before .before .before .before .before .before .before
+    λ s q m b w v. rw (c .no-figure6 .ensures) (refuses _ _ _ _ _ _ (sym (c .before .before .before .before .before .before .before .before
     .before .fit .ensures _ _ _ _ _ _) ∙ not-false _ (c .before .before .before .before .before .before .before .before .if1 .left))
     (rw (
       lt-leb clients (a .client) (omega arith),
@@ -128,8 +128,8 @@ returns-7 c =
     let a = c .before .before .before .before .before .before .before .before .before .before .before .before .before .before .before
     .before .before .before .before .before .before .before .before .before .args in
     let f : Found = find (isOwn (getD (a .number .now) (a .client) 0) (a .cell)) 0 (rowsIn 24 (a .h .used) (a .rows .now)) in
-    λ s q m b w. write-stores (whole (a .h) (clientsOf (a .stage .now) (a .number .now) s q m b w)) (a .rows .now) (a .commits .now) (a
-    .client) (a .cell)
+    λ s q m b w v. write-stores (whole (a .h) (clientsOf (a .stage .now) (a .number .now) s q m b w)) (a .rows .now) (a .commits .now) v
+    (a .client) (a .cell)
     (omega (
       arith,
       c .before .before .before .before .before .before .before .before .before .before .before .before .before .before
@@ -149,7 +149,7 @@ returns-7 c =
           .before .before .before .before .before .before .before .before .before .if4 .left,
     ))
     (sym (own-rows f _ _ _ (c .before .before .before .before .before .before .before .before .before .own-row .ensures) (c .before
-    .before .before .before .before .before .before .own2 .given .1) .0)) (c .before .before .new-row .ensures _ _ _ _ _ _ _)
+    .before .before .before .before .before .before .own2 .given .1) .0)) (c .before .before .new-row .ensures _ _ _ _ _ _ _ _)
 
 counted-row-requires : tie.Need-counted-row-requires
 counted-row-requires c κs =
@@ -163,8 +163,8 @@ returns-8 c =
     let a = c .before .before .before .before .before .before .before .before .before .before .before .before .before .before .before
     .before .before .before .before .before .before .before .args in
     let f : Found = find (isOwn (getD (a .number .now) (a .client) 0) (a .cell)) 0 (rowsIn 24 (a .h .used) (a .rows .now)) in
-    λ s q m b w. write-stores (whole (a .h) (clientsOf (a .stage .now) (a .number .now) s q m b w)) (a .rows .now) (a .commits .now) (a
-    .client) (a .cell)
+    λ s q m b w v. write-stores (whole (a .h) (clientsOf (a .stage .now) (a .number .now) s q m b w)) (a .rows .now) (a .commits .now) v
+    (a .client) (a .cell)
     (omega (
       arith,
       c .before .before .before .before .before .before .before .before .before .before .before .before .before .before
@@ -183,15 +183,15 @@ returns-8 c =
           .before .before .before .before .before .before .before .before .before .before .before .if4 .left,
     ))
     (sym (own-row f _ _ _ (c .before .before .before .before .before .before .before .own-row .ensures) (c .before .before .before
-    .before .before .own .given .1))) (c .before .before .replace-row .ensures _ _ _ _ _ _ _ _)
+    .before .before .own .given .1))) (c .before .before .replace-row .ensures _ _ _ _ _ _ _ _ _)
 
 returns-9 : tie.Need-returns-9
 returns-9 c =
     let a = c .before .before .before .before .before .before .before .before .before .before .before .before .before .before .before
     .before .before .before .before .before .before .before .before .before .args in
     let f : Found = find (isOwn (getD (a .number .now) (a .client) 0) (a .cell)) 0 (rowsIn 24 (a .h .used) (a .rows .now)) in
-    λ s q m b w. write-stores (whole (a .h) (clientsOf (a .stage .now) (a .number .now) s q m b w)) (a .rows .now) (a .commits .now) (a
-    .client) (a .cell)
+    λ s q m b w v. write-stores (whole (a .h) (clientsOf (a .stage .now) (a .number .now) s q m b w)) (a .rows .now) (a .commits .now) v
+    (a .client) (a .cell)
     (omega (
       arith,
       c .before .before .before .before .before .before .before .before .before .before .before .before .before .before
@@ -211,7 +211,7 @@ returns-9 c =
           .before .before .before .before .before .before .before .before .before .if4 .left,
     ))
     (sym (own-rows f _ _ _ (c .before .before .before .before .before .before .before .before .before .own-row .ensures) (c .before
-    .before .before .before .before .before .before .own2 .given .1) .0)) (c .before .before .counted-row .ensures _ _ _ _ _ _ _)
+    .before .before .before .before .before .before .own2 .given .1) .0)) (c .before .before .counted-row .ensures _ _ _ _ _ _ _ _)
 
 pub write-spec : {M : Type 1} → statement M
 write-spec = tie.close (tie.spec (λ c κs. search needs) (λ c κs. search needs) returns (λ c κs. search needs) returns-2 (λ c κs. search
