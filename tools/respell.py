@@ -116,17 +116,24 @@ def main():
         print(bad, "to be looked at; nothing was written")
         return 1
     one = re.compile(r"`[^`\n]*`")
-    swap = lambda t: names.get(t.group(0), t.group(0))
+    crates = set(os.listdir("crates"))
     for path in files("antt") + files("rt"):
+        text = open(path, encoding="utf-8").read()
+        # a library's name that one of ours shares
+        theirs = set()
+        for source, given in re.findall(r"use\s+([\w.+'◌-]+)\.\{([^}]*)\}", text):
+            if source.split(".")[0] != "Rattle" or source.split(".")[1] not in crates:
+                theirs.update(TOKEN.findall(given))
+        swap = lambda t: t.group(0) if t.group(0) in theirs else names.get(t.group(0), t.group(0))
         out = []
-        for line in open(path, encoding="utf-8").read().split("\n"):
+        for line in text.split("\n"):
             code, mark, note = line, "", ""
             m = re.search(r"(?:^|\s)(--|//)(?:\s|$)", line)
             if m:
                 code, note = line[:m.start(1)], line[m.start(1):]
-            pieces = re.split(r'("(?:[^"\\]|\\.)*")', code) if path.endswith(".rt") else [code]
+            pieces = re.split(r'("(?:[^"\\]|\\.)*")', code)
             word = CODE if path.endswith(".rt") else TOKEN
-            code = "".join(p if p.startswith('"') and path.endswith(".rt") else word.sub(swap, p) for p in pieces)
+            code = "".join(p if p.startswith('"') else word.sub(swap, p) for p in pieces)
             note = one.sub(lambda q: TOKEN.sub(swap, q.group(0)), note)
             note = TOKEN.sub(lambda t: names[t.group(0)] if t.group(0) in names and CAMEL.search(t.group(0)) else t.group(0), note)
             out.append(code + note)

@@ -60,7 +60,7 @@ cases =
     record {
       name = "1: the run";
       exchanges =
-          ("(set_up_lem 2 1 0)" ⇒ "(set_up_lem (free 2))"
+          ("(set-up 2 1 0)" ⇒ "(set-up (free 2))"
           ∷ "(begin 0)" ⇒ "(begin 0 (number 1) (snapshot 0))"
           ∷ "(write 0 7 000102030405060708090a0b0c0d0e0f)" ⇒ "(write 0 7 (free 1))"
           ∷ "(advance 0)" ⇒ "(advance 0 (stage 1))"
@@ -72,7 +72,7 @@ cases =
     ∷ record {
       name = "2: last client and last cell";
       exchanges =
-          ("(set_up_lem 2 1 0)" ⇒ "(set_up_lem (free 2))"
+          ("(set-up 2 1 0)" ⇒ "(set-up (free 2))"
           ∷ "(begin 63)" ⇒ "(begin 63 (number 1) (snapshot 0))"
           ∷ "(begin 64)" ⇒ "(begin 64 (refused 3))"
           ∷ "(write 63 1023 000102030405060708090a0b0c0d0e0f)" ⇒ "(write 63 1023 (free 1))"
@@ -82,7 +82,7 @@ cases =
     ∷ record {
       name = "3: limit 1, no row free";
       exchanges =
-          ("(set_up_lem 1 1 1)" ⇒ "(set_up_lem (free 1))"
+          ("(set-up 1 1 1)" ⇒ "(set-up (free 1))"
           ∷ "(begin 0)" ⇒ "(begin 0 (number 1) (snapshot 0))"
           ∷ "(write 0 5 000102030405060708090a0b0c0d0e0f)" ⇒ "(write 0 5 (free 0))"
           ∷ "(write 0 5 ffeeddccbbaa99887766554433221100)" ⇒ "(write 0 5 (free 0))"
@@ -93,7 +93,7 @@ cases =
     ∷ record {
       name = "4: a listed row without a number";
       exchanges =
-          ("(set_up_lem 4 1 0)" ⇒ "(set_up_lem (free 4))"
+          ("(set-up 4 1 0)" ⇒ "(set-up (free 4))"
           ∷ "(begin 0)" ⇒ "(begin 0 (number 1) (snapshot 0))"
           ∷ "(begin 1)" ⇒ "(begin 1 (number 2) (snapshot 0))"
           ∷ "(write 0 7 000102030405060708090a0b0c0d0e0f)" ⇒ "(write 0 7 (free 3))"
@@ -111,7 +111,7 @@ cases =
     ∷ record {
       name = "5: the later requester waits, then conflicts";
       exchanges =
-          ("(set_up_lem 4 1 0)" ⇒ "(set_up_lem (free 4))"
+          ("(set-up 4 1 0)" ⇒ "(set-up (free 4))"
           ∷ "(begin 0)" ⇒ "(begin 0 (number 1) (snapshot 0))"
           ∷ "(begin 1)" ⇒ "(begin 1 (number 2) (snapshot 0))"
           ∷ "(write 0 7 000102030405060708090a0b0c0d0e0f)" ⇒ "(write 0 7 (free 3))"
@@ -132,7 +132,7 @@ cases =
     ∷ record {
       name = "6: a commit number taken and abandoned";
       exchanges =
-          ("(set_up_lem 4 1 0)" ⇒ "(set_up_lem (free 4))"
+          ("(set-up 4 1 0)" ⇒ "(set-up (free 4))"
           ∷ "(begin 0)" ⇒ "(begin 0 (number 1) (snapshot 0))"
           ∷ "(write 0 7 000102030405060708090a0b0c0d0e0f)" ⇒ "(write 0 7 (free 3))"
           ∷ [])
@@ -149,7 +149,7 @@ cases =
     ∷ record {
       name = "7: three commits of one cell, trimmed";
       exchanges =
-          ("(set_up_lem 4 1 0)" ⇒ "(set_up_lem (free 4))"
+          ("(set-up 4 1 0)" ⇒ "(set-up (free 4))"
           ∷ "(begin 0)" ⇒ "(begin 0 (number 1) (snapshot 0))"
           ∷ "(write 0 7 000102030405060708090a0b0c0d0e0f)" ⇒ "(write 0 7 (free 3))"
           ∷ [])
@@ -173,7 +173,7 @@ cases =
     ∷ record {
       name = "8: crossed reads and writes both commit";
       exchanges =
-          ("(set_up_lem 4 1 0)" ⇒ "(set_up_lem (free 4))"
+          ("(set-up 4 1 0)" ⇒ "(set-up (free 4))"
           ∷ "(begin 0)" ⇒ "(begin 0 (number 1) (snapshot 0))"
           ∷ "(begin 1)" ⇒ "(begin 1 (number 2) (snapshot 0))"
           ∷ "(read 0 1)" ⇒ "(read 0 1 (unwritten))"
@@ -199,7 +199,7 @@ cases =
     ∷ record {
       name = "a blocker that has begun again blocks no longer";
       exchanges =
-          ("(set_up_lem 4 1 0)" ⇒ "(set_up_lem (free 4))"
+          ("(set-up 4 1 0)" ⇒ "(set-up (free 4))"
           ∷ "(begin 0)" ⇒ "(begin 0 (number 1) (snapshot 0))"
           ∷ "(begin 1)" ⇒ "(begin 1 (number 2) (snapshot 0))"
           ∷ "(write 0 7 000102030405060708090a0b0c0d0e0f)" ⇒ "(write 0 7 (free 3))"
@@ -218,7 +218,7 @@ cases =
     ∷ record {
       name = "a trim while an older snapshot is open";
       exchanges =
-          ("(set_up_lem 4 1 0)" ⇒ "(set_up_lem (free 4))"
+          ("(set-up 4 1 0)" ⇒ "(set-up (free 4))"
           ∷ "(begin 0)" ⇒ "(begin 0 (number 1) (snapshot 0))"
           ∷ "(write 0 7 000102030405060708090a0b0c0d0e0f)" ⇒ "(write 0 7 (free 3))"
           ∷ [])
@@ -240,7 +240,7 @@ cases =
       name = "reads while a commit waits, at stages 4 and 10";
       exchanges =
           -- cell 5 is committed under 1; client 0 begins, writes cell 7, and enters the queue behind client 2, who wrote it too
-          ("(set_up_lem 8 1 0)" ⇒ "(set_up_lem (free 8))"
+          ("(set-up 8 1 0)" ⇒ "(set-up (free 8))"
           ∷ "(begin 1)" ⇒ "(begin 1 (number 1) (snapshot 0))"
           ∷ "(write 1 5 000102030405060708090a0b0c0d0e0f)" ⇒ "(write 1 5 (free 7))"
           ∷ [])
@@ -300,7 +300,7 @@ cases =
     ∷ record {
       name = "an enquiry in a new store";
       exchanges =
-          ("(set_up_lem 1 1 0)" ⇒ "(set_up_lem (free 1))"
+          ("(set-up 1 1 0)" ⇒ "(set-up (free 1))"
           ∷ "(begin 0)" ⇒ "(begin 0 (number 1) (snapshot 0))"
           ∷ "(read 0 7)" ⇒ "(read 0 7 (unwritten))"
           ∷ "(advance 0)" ⇒ "(advance 0 (done 0))"
@@ -319,7 +319,7 @@ cases =
       name = "enquiries while a commit is under way";
       exchanges =
           -- cell 7 is committed under 1; client 1 begins an enquiry, client 2 a change of the cell that it reads
-          ("(set_up_lem 4 1 0)" ⇒ "(set_up_lem (free 4))"
+          ("(set-up 4 1 0)" ⇒ "(set-up (free 4))"
           ∷ "(begin 0)" ⇒ "(begin 0 (number 1) (snapshot 0))"
           ∷ "(write 0 7 000102030405060708090a0b0c0d0e0f)" ⇒ "(write 0 7 (free 3))"
           ∷ [])
@@ -354,7 +354,7 @@ cases =
     ∷ record {
       name = "reads by the version table, at three snapshots";
       exchanges =
-          ("(set_up_lem 8 1 0)" ⇒ "(set_up_lem (free 8))"
+          ("(set-up 8 1 0)" ⇒ "(set-up (free 8))"
           ∷ "(begin 0)" ⇒ "(begin 0 (number 1) (snapshot 0))"
           ∷ "(write 0 7 000102030405060708090a0b0c0d0e0f)" ⇒ "(write 0 7 (free 7))"
           ∷ [])
@@ -402,7 +402,7 @@ cases =
           ∷ "(read 4 7)" ⇒ "(read 4 7 (value ffeeddccbbaa99887766554433221100))"
           ∷ "(read 4 8)" ⇒ "(read 4 8 (value 0f0e0d0c0b0a09080706050403020100))"
           -- a new set-up begins without entries
-          ∷ "(set_up_lem 8 1 0)" ⇒ "(set_up_lem (free 8))"
+          ∷ "(set-up 8 1 0)" ⇒ "(set-up (free 8))"
           ∷ "(begin 4)" ⇒ "(begin 4 (number 1) (snapshot 0))"
           ∷ "(read 4 7)" ⇒ "(read 4 7 (unwritten))"
           ∷ "(write 4 7 000102030405060708090a0b0c0d0e0f)" ⇒ "(write 4 7 (free 7))"
@@ -416,7 +416,7 @@ cases =
     ∷ record {
       name = "limit 0: eight cells";
       exchanges =
-          ("(set_up_lem 12 1 0)" ⇒ "(set_up_lem (free 12))"
+          ("(set-up 12 1 0)" ⇒ "(set-up (free 12))"
           ∷ "(begin 0)" ⇒ "(begin 0 (number 1) (snapshot 0))"
           ∷ [])
           ++ new_cells 0 0 12 8
@@ -438,7 +438,7 @@ cases =
     ∷ record {
       name = "limit 16, by name: sixteen cells";
       exchanges =
-          ("(set_up_lem 17 1 16)" ⇒ "(set_up_lem (free 17))"
+          ("(set-up 17 1 16)" ⇒ "(set-up (free 17))"
           ∷ "(begin 0)" ⇒ "(begin 0 (number 1) (snapshot 0))"
           ∷ [])
           ++ new_cells 0 0 17 16
@@ -450,7 +450,7 @@ cases =
       name = "clients 40 and 63 wait for one another, in both queues";
       exchanges =
           -- both write cell 7: client 40 has the smaller number, and still waits for client 63, which has none; then client 63 waits for it
-          ("(set_up_lem 4 1 0)" ⇒ "(set_up_lem (free 4))"
+          ("(set-up 4 1 0)" ⇒ "(set-up (free 4))"
           ∷ "(begin 40)" ⇒ "(begin 40 (number 1) (snapshot 0))"
           ∷ "(begin 63)" ⇒ "(begin 63 (number 2) (snapshot 0))"
           ∷ "(write 40 7 000102030405060708090a0b0c0d0e0f)" ⇒ "(write 40 7 (free 3))"
@@ -493,7 +493,7 @@ cases =
     ∷ record {
       name = "client 63 reads at the oldest snapshot, through a trim; there is no client 64";
       exchanges =
-          ("(set_up_lem 4 1 0)" ⇒ "(set_up_lem (free 4))"
+          ("(set-up 4 1 0)" ⇒ "(set-up (free 4))"
           ∷ "(begin 0)" ⇒ "(begin 0 (number 1) (snapshot 0))"
           ∷ "(write 0 7 000102030405060708090a0b0c0d0e0f)" ⇒ "(write 0 7 (free 3))"
           ∷ [])
@@ -521,7 +521,7 @@ cases =
     ∷ record {
       name = "5 again: the later requester looks, and reads its own value, after each of the earlier one's steps";
       exchanges =
-          ("(set_up_lem 4 1 0)" ⇒ "(set_up_lem (free 4))"
+          ("(set-up 4 1 0)" ⇒ "(set-up (free 4))"
           ∷ "(begin 0)" ⇒ "(begin 0 (number 1) (snapshot 0))"
           ∷ "(begin 1)" ⇒ "(begin 1 (number 2) (snapshot 0))"
           ∷ "(write 0 7 000102030405060708090a0b0c0d0e0f)" ⇒ "(write 0 7 (free 3))"
@@ -542,7 +542,7 @@ cases =
     ∷ record {
       name = "9: the last W";
       exchanges =
-          ("(set_up_lem 2 4294967295 0)" ⇒ "(set_up_lem (free 2))"
+          ("(set-up 2 4294967295 0)" ⇒ "(set-up (free 2))"
           ∷ "(begin 0)" ⇒ "(begin 0 (number 4294967295) (snapshot 0))"
           ∷ "(begin 1)" ⇒ "(begin 1 (refused 8))"
           ∷ "(begin 0)" ⇒ "(begin 0 (refused 5))"
@@ -554,7 +554,7 @@ cases =
       name = "the commit queue: all rows are listed, a number is noted at 8, and the queue is left at 12";
       exchanges =
           -- a cell each: client 2 is at stage 6, not in the commit queue, when client 0 makes its list; client 1 is, without a number
-          ("(set_up_lem 4 1 0)" ⇒ "(set_up_lem (free 4))"
+          ("(set-up 4 1 0)" ⇒ "(set-up (free 4))"
           ∷ "(begin 0)" ⇒ "(begin 0 (number 1) (snapshot 0))"
           ∷ "(begin 1)" ⇒ "(begin 1 (number 2) (snapshot 0))"
           ∷ "(begin 2)" ⇒ "(begin 2 (number 3) (snapshot 0))"
@@ -602,7 +602,7 @@ cases =
     ∷ record {
       name = "the commit queue's lists name transactions: a client that leaves and comes again is not waited for";
       exchanges =
-          ("(set_up_lem 4 1 0)" ⇒ "(set_up_lem (free 4))"
+          ("(set-up 4 1 0)" ⇒ "(set-up (free 4))"
           ∷ "(begin 0)" ⇒ "(begin 0 (number 1) (snapshot 0))"
           ∷ "(begin 1)" ⇒ "(begin 1 (number 2) (snapshot 0))"
           ∷ "(write 0 7 000102030405060708090a0b0c0d0e0f)" ⇒ "(write 0 7 (free 3))"
@@ -624,7 +624,7 @@ cases =
       name = "an Abandon at stage 11";
       exchanges =
           -- client 0 has commit number 1; client 1 waits for it in the commit queue, client 2, of the same cell, in the request queue
-          ("(set_up_lem 4 1 0)" ⇒ "(set_up_lem (free 4))"
+          ("(set-up 4 1 0)" ⇒ "(set-up (free 4))"
           ∷ "(begin 0)" ⇒ "(begin 0 (number 1) (snapshot 0))"
           ∷ "(begin 1)" ⇒ "(begin 1 (number 2) (snapshot 0))"
           ∷ "(begin 2)" ⇒ "(begin 2 (number 3) (snapshot 0))"
@@ -658,7 +658,7 @@ cases =
           ∷ []);
     }
     ∷ record {
-      name = "before a set_up_lem, and set_ups_lem that are refused";
+      name = "before a set-up, and set-ups that are refused";
       exchanges =
           -- "Before a set-up the store has 0 rows"
           ("(begin 0)" ⇒ "(begin 0 (refused 2))"
@@ -669,23 +669,23 @@ cases =
           ∷ "(trim)" ⇒ "(trim (refused 2))"
           ∷ "(free)" ⇒ "(free (refused 2))"
           -- a refused one leaves it so
-          ∷ "(set_up_lem 0 1 0)" ⇒ "(set_up_lem (refused 1))"
-          ∷ "(set_up_lem 2 0 0)" ⇒ "(set_up_lem (refused 1))"
+          ∷ "(set-up 0 1 0)" ⇒ "(set-up (refused 1))"
+          ∷ "(set-up 2 0 0)" ⇒ "(set-up (refused 1))"
           ∷ "(free)" ⇒ "(free (refused 2))"
           -- "the limit is above 64"; "a refused set-up keeps the old one, and rows outside 1 to 1,024 print (set-up (refused 1))"
-          ∷ "(set_up_lem 2 5 64)" ⇒ "(set_up_lem (free 2))"
+          ∷ "(set-up 2 5 64)" ⇒ "(set-up (free 2))"
           ∷ "(begin 0)" ⇒ "(begin 0 (number 5) (snapshot 0))"
           ∷ "(write 0 7 000102030405060708090a0b0c0d0e0f)" ⇒ "(write 0 7 (free 1))"
-          ∷ "(set_up_lem 1 1 65)" ⇒ "(set_up_lem (refused 1))"
-          ∷ "(set_up_lem 0 1 0)" ⇒ "(set_up_lem (refused 1))"
-          ∷ "(set_up_lem 1025 1 0)" ⇒ "(set_up_lem (refused 1))"
-          ∷ "(set_up_lem 4294967295 1 0)" ⇒ "(set_up_lem (refused 1))"
-          ∷ "(set_up_lem 1 0 0)" ⇒ "(set_up_lem (refused 1))"
+          ∷ "(set-up 1 1 65)" ⇒ "(set-up (refused 1))"
+          ∷ "(set-up 0 1 0)" ⇒ "(set-up (refused 1))"
+          ∷ "(set-up 1025 1 0)" ⇒ "(set-up (refused 1))"
+          ∷ "(set-up 4294967295 1 0)" ⇒ "(set-up (refused 1))"
+          ∷ "(set-up 1 0 0)" ⇒ "(set-up (refused 1))"
           ∷ "(read 0 7)" ⇒ "(read 0 7 (value 000102030405060708090a0b0c0d0e0f))"
           ∷ "(begin 1)" ⇒ "(begin 1 (number 6) (snapshot 0))"
           ∷ "(free)" ⇒ "(free (free 1))"
           -- an accepted one begins anew
-          ∷ "(set_up_lem 3 1 0)" ⇒ "(set_up_lem (free 3))"
+          ∷ "(set-up 3 1 0)" ⇒ "(set-up (free 3))"
           ∷ "(read 0 7)" ⇒ "(read 0 7 (refused 6))"
           ∷ "(begin 0)" ⇒ "(begin 0 (number 1) (snapshot 0))"
           ∷ "(read 0 7)" ⇒ "(read 0 7 (unwritten))"
@@ -694,14 +694,14 @@ cases =
     ∷ record {
       name = "lines that are no form";
       exchanges =
-          ("(set_up_lem 2 1 0)" ⇒ "(set_up_lem (free 2))"
+          ("(set-up 2 1 0)" ⇒ "(set-up (free 2))"
           ∷ "(begin 0)" ⇒ "(begin 0 (number 1) (snapshot 0))"
           -- "decimal without leading zeros up to 4,294,967,295"
           ∷ "(begin 01)" ⇒ "(line (refused 13))"
           ∷ "(begin 00)" ⇒ "(line (refused 13))"
-          ∷ "(set_up_lem 02 1 0)" ⇒ "(line (refused 13))"
-          ∷ "(set_up_lem 2 01 0)" ⇒ "(line (refused 13))"
-          ∷ "(set_up_lem 2 1 00)" ⇒ "(line (refused 13))"
+          ∷ "(set-up 02 1 0)" ⇒ "(line (refused 13))"
+          ∷ "(set-up 2 01 0)" ⇒ "(line (refused 13))"
+          ∷ "(set-up 2 1 00)" ⇒ "(line (refused 13))"
           ∷ "(read 0 007)" ⇒ "(line (refused 13))"
           ∷ "(write 0 07 000102030405060708090a0b0c0d0e0f)" ⇒ "(line (refused 13))"
           ∷ "(begin 4294967295)" ⇒ "(begin 4294967295 (refused 3))"
@@ -732,7 +732,7 @@ cases =
           ∷ "(free 0)" ⇒ "(line (refused 13))"
           ∷ "(read 0)" ⇒ "(line (refused 13))"
           ∷ "(read 0 7 7)" ⇒ "(line (refused 13))"
-          ∷ "(set_up_lem 2 1)" ⇒ "(line (refused 13))"
+          ∷ "(set-up 2 1)" ⇒ "(line (refused 13))"
           ∷ "(Begin 1)" ⇒ "(line (refused 13))"
           ∷ "begin 1" ⇒ "(line (refused 13))"
           -- "an empty one or one over 80 bytes": one of 81; the longest form has 62

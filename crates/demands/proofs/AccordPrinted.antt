@@ -40,8 +40,8 @@ input =
     ∷ "(abandon 0)"
     ∷ "(free)"
     ∷ "(trim)"
-    ∷ "(set_up_lem 1025 1 0)"
-    ∷ "(set_up_lem 2 0 0)"
+    ∷ "(set-up 1025 1 0)"
+    ∷ "(set-up 2 0 0)"
     ∷ "(begin)"
     ∷ "(read 0 7)"
     ∷ []
@@ -57,8 +57,8 @@ output =
     ∷ "(abandon 0 (free 2))"
     ∷ "(free (free 2))"
     ∷ "(trim (dropped 0))"
-    ∷ "(set_up_lem (refused 1))"
-    ∷ "(set_up_lem (refused 1))"
+    ∷ "(set-up (refused 1))"
+    ∷ "(set-up (refused 1))"
     ∷ "(line (refused 13))"
     ∷ "(read 0 7 (refused 6))"
     ∷ []

@@ -4,7 +4,7 @@
 use Prim.Native.Nat.{ℕ, zero, suc, ◌-◌, ◌/◌, ◌≤◌, ◌<◌}
 use mathlib.Core.Path.{◌≡◌, refl, sym, ◌∙◌, ap, subst}
 use mathlib.Core.Logic.{by_cases}
-use mathlib.Core.Bool.{Bool, true, false, ◌||◌, or_true, false≢true}
+use mathlib.Core.Bool.{Bool, true, false, ◌||◌, or-true, false≢true}
 use mathlib.Core.List.{List, [], ◌∷◌, ◌++◌, flatten}
 use native.Mathlib.Decide.{ℕ_discrete}
 use native.Mathlib.Omega.{arith}
@@ -232,4 +232,4 @@ module _ (d c : List ℕ) (w l : ℕ) (lw : w ≤ 4294967295) (qs : List Call) w
           by_cases (ℕ_discrete n k)
           (own_turn n k x)
           (λ e. ap (λ (y : Bool). serves k (Advance n) (observed (Advance n) x) || y) (has-turn n k _ (omega (arith, e)))
-          ∙ or_true (serves k (Advance n) (observed (Advance n) x)))
+          ∙ or-true (serves k (Advance n) (observed (Advance n) x)))

@@ -136,7 +136,7 @@ form_small : (s : List ℕ) → FirstSmall (form_of s)
 unfolding form_of form_in
 form_small s =
     first_if (ltb 80 (length s)) _ _ tt
-    (first_if (begins (str "(set_up_lem ") s) _ _ (set_up_small s)
+    (first_if (begins (str "(set-up ") s) _ _ (set_up_small s)
     (first_if (begins (str "(begin ") s) _ _ (client_small Begin (one_at s 7) (λ k. tt))
     (first_if (begins (str "(read ") s) _ _ (read_small (two_at s 6))
     (first_if (begins (str "(write ") s) _ _ (write_small s)

@@ -2,7 +2,7 @@
 -- Assumes nothing.
 use Prim.Native.Nat.{ℕ, ◌+◌, ◌^◌, ◌≤◌, ◌<◌}
 use mathlib.Core.Path.{◌≡◌, refl, sym, ◌∙◌}
-use mathlib.Core.Bool.{Bool, true, false, ◌&&◌, ◌||◌, or_true, or-false, and-false}
+use mathlib.Core.Bool.{Bool, true, false, ◌&&◌, ◌||◌, or-true, or-false, and-false}
 use mathlib.Core.List.{List}
 use native.Mathlib.Omega.{arith}
 use lib.ListN.{get_or}
@@ -51,7 +51,7 @@ module _ (found : ℕ) (p : ℕ → Bool) where
       still n false e = le-ltb j (i + 1) (omega (arith, ltb-false j i e, n))
 
       go : (t u : Bool) → eqb j i ≡ t → p i ≡ u → member (if u then insert clients out i else out) j ≡ (member found j || (ltb j (i + 1) && p j))
-      go true true e f = rw (member-insert clients out i j h, e, eqb-true j i e, f, lt-ltb i (i + 1) (omega arith), or_true)
+      go true true e f = rw (member-insert clients out i j h, e, eqb-true j i e, f, lt-ltb i (i + 1) (omega arith), or-true)
       go true false e f = all j ∙ rw (eqb-true j i e, f, and-false, and-false)
       go false true e f = rw (member-insert clients out i j h, e, still (eqb-false j i e) (ltb j i) refl) (all j)
       go false false e f = rw (still (eqb-false j i e) (ltb j i) refl) (all j)

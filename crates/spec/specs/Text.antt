@@ -185,7 +185,7 @@ bare_form f s = if eqb (length s) 6 then f else Other
 
 unfoldable pub form_in : List ℕ → Form
 form_in s =
-    if begins (str "(set_up_lem ") s then set_up_of s else
+    if begins (str "(set-up ") s then set_up_of s else
     if begins (str "(begin ") s then client_form Begin (one_at s 7) else
     if begins (str "(read ") s then read_with (two_at s 6) else
     if begins (str "(write ") s then write_of s else
@@ -210,7 +210,7 @@ numbered w n e = w ++ (decimal_of n ++ e)
 
 -- keyword, client and cell
 unfoldable pub head_text : Form → List ℕ
-head_text (SetUp r w l) = str "(set_up_lem "
+head_text (SetUp r w l) = str "(set-up "
 head_text (Begin k) = numbered (str "(begin ") k (str " ")
 head_text (Read k x) = numbered (str "(read ") k (str " ") ++ numbered [] x (str " ")
 head_text (Write k x v) = numbered (str "(write ") k (str " ") ++ numbered [] x (str " ")

@@ -1,7 +1,7 @@
 -- `search::any_above`: what is looked for in all committed rows was found or is looked for in the rest.
 use Prim.Native.Nat.{◌-◌}
 use mathlib.Core.Path.{◌≡◌, sym, ap, ◌∙◌}
-use mathlib.Core.Bool.{◌||◌, or_true, or-false}
+use mathlib.Core.Bool.{◌||◌, or-true, or-false}
 use mathlib.Core.Logic.{⊎_elim}
 use native.Mathlib.Omega.{arith}
 use lib.Dec.{ltb}
@@ -31,7 +31,7 @@ loop-again c =
     let number = commit_number (row_at 8 loop.i a.commits.now) in
     let step = any_step (λ r. ltb a.s (commit_number r)) 8 a.entries loop.i a.commits.now (omega arith) in
     ⊎_elim
-    (λ w. rw w.1 (loop.invariant ∙ rw (step, lt-ltb a.s number (omega (arith, w.0.taken, c.before.commit-number-at.ensures)), or_true)))
+    (λ w. rw w.1 (loop.invariant ∙ rw (step, lt-ltb a.s number (omega (arith, w.0.taken, c.before.commit-number-at.ensures)), or-true)))
     (λ w. rw w.1 (loop.invariant ∙ rw (step, le-ltb a.s number (omega (arith, w.0.left, c.before.commit-number-at.ensures)))))
     c.if1.branch
 

@@ -17,7 +17,7 @@ line-1 c = c.before.before.before.before.args.line.now
 past-1 : (c : tie.Else1) → form_in (line-1 c) ≡ from_begin (line-1 c)
 unfolding form_in
 past-1 c =
-    let n : begins (str "(set_up_lem ") (line-1 c) ≡ false = sym c.before.begins.ensures ∙ c.if1.false in
+    let n : begins (str "(set-up ") (line-1 c) ≡ false = sym c.before.begins.ensures ∙ c.if1.false in
     rw n
 
 abbrev line-2 : tie.Else2 → List ℕ
