@@ -1,4 +1,5 @@
 // Begin: the next number, and the last commit number as the snapshot.
+#![tactic(auto)]
 ghost use Rattle.std.specs.Prelude.{◌≡◌};
 ghost use Rattle.spec.specs.Answers.{begin_of};
 ghost use Rattle.spec.specs.Calls.{begin};
@@ -8,7 +9,7 @@ use record::Head;
 use spec::{BeginAnswer, Begun, CLIENTS, LIMIT, Refusal, Set, TOP};
 
 // The numbers that Begin leaves, and its answer.
-#[derive(Drop)]
+#[derive(Clone, Copy)]
 pub struct BeginResult {
     pub head: Head,
     pub answer: BeginAnswer,

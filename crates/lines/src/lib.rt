@@ -1,4 +1,5 @@
 // The answer to a line, on a record apart, the program's two buffers and its version table. Definitions: crate spec, specs/Session.antt.
+#![tactic(auto)]
 ghost use Rattle.std.specs.Prelude.{◌≡◌, List, ℕ, ◌+◌, ◌≤◌, length};
 ghost use Rattle.spec.specs.Answers.{read_of};
 ghost use Rattle.spec.specs.Run.{Begin, Read, Write, Advance, Abandon, Trim, Free};
@@ -13,7 +14,7 @@ use record::Head;
 use spec::{CLIENTS, COMMIT_ROW, DATA_ROW, FigureAnswer, Form, ReadAnswer, Reading, Set, VERSIONS};
 
 // The numbers that a line leaves, and where the text ends.
-#[derive(Drop)]
+#[derive(Clone, Copy)]
 pub struct Answered {
     pub head: Head,
     pub used: usize,

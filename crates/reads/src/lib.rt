@@ -1,4 +1,5 @@
 // Read and the sixteen bytes that it finds, and Free.
+#![tactic(auto)]
 ghost use Rattle.std.specs.Prelude.{◌≡◌, List, ℕ, ◌<◌, length, get_or};
 ghost use Rattle.spec.specs.Answers.{figure_of, read_of};
 ghost use Rattle.spec.specs.Calls.{free, read};
@@ -42,7 +43,7 @@ fn entry_at(versions: &[u32], cell: u32) -> u32
 }
 
 // What a Read comes to: the row that it finds by the cell's entry, or a refusal.
-#[derive(Drop)]
+#[derive(Clone, Copy)]
 enum Sought {
     Seen(Lookup),
     Refused(Refusal),

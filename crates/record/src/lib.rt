@@ -1,5 +1,6 @@
 // The record apart: its eight numbers by value, and its arrays by client lent, a column each. Fitness, a new record,
 // closing a client, Trim's low; and how a record by value comes apart and together.
+#![tactic(auto)]
 ghost use Rattle.std.specs.Prelude.{◌≡◌, false, ◌+◌, ◌<◌, ◌≤◌};
 ghost use Rattle.spec.specs.Set.{clients};
 ghost use Rattle.spec.specs.Image.{closed, clients_of, empty};
@@ -9,7 +10,7 @@ ghost use Rattle.record.specs.Inner.{whole, columns, no_clients, Suits, AllClose
 use spec::{AdvanceAnswer, CLIENTS, COMMIT_ROW, DATA_ROW, FigureAnswer, Refusal, Set, Store};
 
 // The numbers of a record. Its arrays by client are lent beside them.
-#[derive(Drop)]
+#[derive(Clone, Copy)]
 pub struct Head {
     pub rows: u32,
     pub limit: u32,
@@ -22,13 +23,13 @@ pub struct Head {
 }
 
 // The numbers that a call leaves, and its answer: a figure, or what Advance answers.
-#[derive(Drop)]
+#[derive(Clone, Copy)]
 pub struct FigureResult {
     pub head: Head,
     pub answer: FigureAnswer,
 }
 
-#[derive(Drop)]
+#[derive(Clone, Copy)]
 pub struct AdvanceResult {
     pub head: Head,
     pub answer: AdvanceAnswer,

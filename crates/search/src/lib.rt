@@ -1,4 +1,5 @@
 // Searches over the rows of both buffers.
+#![tactic(auto)]
 ghost use Rattle.std.specs.Prelude.{◌≡◌, true, ◌&&◌, ◌+◌, ◌*◌, ◌≤◌, ◌<◌, eqb, ltb, length, set, replicate};
 ghost use Rattle.spec.specs.Set.{clients, member, insert};
 ghost use Rattle.std.specs.Prelude.{if◌then◌else◌};
@@ -11,7 +12,7 @@ ghost use Rattle.search.specs.Inner.{own_of, sharers_of, may_have, Joined, Next,
 use spec::{CLIENTS, Number, Set};
 
 // The row of a transaction for a cell, or how many rows it has where there is none.
-#[derive(Drop)]
+#[derive(Clone, Copy)]
 pub enum Own {
     Row(usize),
     Rows(usize),

@@ -1,5 +1,6 @@
 // The store's record and the answers of its calls. What the calls do is defined in specs/.
 // How many clients there are.
+#![tactic(auto)]
 pub const CLIENTS: usize = 64;
 
 // The same, as the number that a client is compared with.
@@ -48,7 +49,7 @@ pub struct Store {
 }
 
 // Why a call is refused; document 01's number of each is in specs/Answers.antt. 11 is unused.
-#[derive(Drop)]
+#[derive(Clone, Copy)]
 pub enum Refusal {
     BadSetUp,
     Unfit,
@@ -64,14 +65,14 @@ pub enum Refusal {
 }
 
 // What Begin gives.
-#[derive(Drop)]
+#[derive(Clone, Copy)]
 pub struct Begun {
     pub number: u32,
     pub snapshot: u32,
 }
 
 // What Read gives: the data row in which the value stands.
-#[derive(Drop)]
+#[derive(Clone, Copy)]
 pub enum Reading {
     Value(usize),
     Unwritten,
@@ -79,7 +80,7 @@ pub enum Reading {
 
 // What Advance gives: the new stage; how many transactions are still waited for; the smallest conflicting commit
 // number; the transaction's commit number.
-#[derive(Drop)]
+#[derive(Clone, Copy)]
 pub enum Progress {
     Stage(u32),
     Waiting(u32),
@@ -88,25 +89,25 @@ pub enum Progress {
 }
 
 // The answers, by kind. Set-up, Write, Abandon and Free give the free figure, Trim how many data rows went.
-#[derive(Drop)]
+#[derive(Clone, Copy)]
 pub enum FigureAnswer {
     Answered(u32),
     Refused(Refusal),
 }
 
-#[derive(Drop)]
+#[derive(Clone, Copy)]
 pub enum BeginAnswer {
     Answered(Begun),
     Refused(Refusal),
 }
 
-#[derive(Drop)]
+#[derive(Clone, Copy)]
 pub enum ReadAnswer {
     Answered(Reading),
     Refused(Refusal),
 }
 
-#[derive(Drop)]
+#[derive(Clone, Copy)]
 pub enum AdvanceAnswer {
     Answered(Progress),
     Refused(Refusal),
@@ -146,7 +147,7 @@ pub struct AdvanceTurn {
 }
 
 // The stages of a queue: a client is in it from first to last, and its number is noted from noted on.
-#[derive(Drop)]
+#[derive(Clone, Copy)]
 pub struct Queue {
     pub first: u32,
     pub noted: u32,
@@ -156,21 +157,21 @@ pub struct Queue {
 // ---- what is found in the rows
 
 // A number, if there is one.
-#[derive(Drop)]
+#[derive(Clone, Copy)]
 pub enum Number {
     Some(u32),
     None,
 }
 
 // Where a row is, if there is one.
-#[derive(Drop)]
+#[derive(Clone, Copy)]
 pub enum Found {
     At(usize),
     Missing,
 }
 
 // A data row and the number it is committed under (0 for an own write), if there is one.
-#[derive(Drop)]
+#[derive(Clone, Copy)]
 pub enum Lookup {
     Version { at: usize, number: u32 },
     Nothing,
@@ -179,7 +180,7 @@ pub enum Lookup {
 // ---- the step program
 
 // What a line says. A value is given by the place of its digits in the line.
-#[derive(Drop)]
+#[derive(Clone, Copy)]
 pub enum Form {
     SetUp {
         rows: u32,
@@ -201,20 +202,20 @@ pub enum Form {
 }
 
 // A decimal number in a line and the place behind it.
-#[derive(Drop)]
+#[derive(Clone, Copy)]
 pub enum Decimal {
     Is { value: u32, next: usize },
     No,
 }
 
 // One number, and two, up to the end of a form.
-#[derive(Drop)]
+#[derive(Clone, Copy)]
 pub enum OneNumber {
     Only(u32),
     NotOne,
 }
 
-#[derive(Drop)]
+#[derive(Clone, Copy)]
 pub enum TwoNumbers {
     Both(u32, u32),
     NotTwo,

@@ -1,4 +1,5 @@
 // Standard input and output of the step program: text written whole, and one chunk read behind bytes that are kept.
+#![tactic(auto)]
 ghost use Rattle.std.specs.Prelude.{◌≡◌, ◌≤◌, length, take};
 
 // Writes the text in out that ends at a place; false where that fails.

@@ -1,5 +1,6 @@
 // Answers as numbers, for programs in C: the refusal's number or 0, then what the call gives. Definitions: crate
 // spec, specs/Told.antt.
+#![tactic(auto)]
 ghost use Rattle.std.specs.Prelude.{◌≡◌};
 ghost use Rattle.spec.specs.Answers.{code, figure_of, begin_of, read_of, advance_of};
 ghost use Rattle.spec.specs.Told.{told_of, figure_told, begin_told, read_told, advance_told, in_numbers};
@@ -7,20 +8,20 @@ ghost use Rattle.spec.specs.Told.{told_of, figure_told, begin_told, read_told, a
 use spec::{AdvanceAnswer, BeginAnswer, FigureAnswer, Progress, ReadAnswer, Reading, Refusal};
 
 // The numbers of an answer: of a call that gives a figure, of one that gives two numbers, and of Read.
-#[derive(Drop)]
+#[derive(Clone, Copy)]
 pub struct Figure {
     pub refusal: u32,
     pub figure: u32,
 }
 
-#[derive(Drop)]
+#[derive(Clone, Copy)]
 pub struct Numbers {
     pub refusal: u32,
     pub first: u32,
     pub second: u32,
 }
 
-#[derive(Drop)]
+#[derive(Clone, Copy)]
 pub struct Place {
     pub refusal: u32,
     pub found: u32,

@@ -2,6 +2,7 @@
 // holds it: its eight numbers are lent, and its arrays by client, a column each. A buffer is a pointer and a length, and
 // so is the version table for Read.
 // None asks anything of its caller. What each leaves and tells is defined in the crate spec: specs/Told.antt.
+#![tactic(auto)]
 ghost use Rattle.std.specs.Prelude.{◌≡◌, List, ℕ};
 ghost use Rattle.spec.specs.Calls.{abandon, begin, free, read, trim, write};
 ghost use Rattle.spec.specs.Steps.{advance};
@@ -17,14 +18,14 @@ const HEAD: usize = 8;
 
 // What a call hands back: the refusal's number, or 0; then what the call gives, zeros where it is refused.
 #[repr(C)]
-#[derive(Drop)]
+#[derive(Clone, Copy)]
 pub struct FigureGiven {
     pub refusal: u32,
     pub figure: u32,
 }
 
 #[repr(C)]
-#[derive(Drop)]
+#[derive(Clone, Copy)]
 pub struct BeginGiven {
     pub refusal: u32,
     pub number: u32,
@@ -33,7 +34,7 @@ pub struct BeginGiven {
 
 // 1 and the data row in which the value stands, or 0 for an unwritten cell.
 #[repr(C)]
-#[derive(Drop)]
+#[derive(Clone, Copy)]
 pub struct ReadGiven {
     pub refusal: u32,
     pub found: u32,
@@ -42,7 +43,7 @@ pub struct ReadGiven {
 
 // 1 Stage, 2 Waiting, 3 Conflict, 4 Done, and its number.
 #[repr(C)]
-#[derive(Drop)]
+#[derive(Clone, Copy)]
 pub struct AdvanceGiven {
     pub refusal: u32,
     pub progress: u32,
