@@ -1,5 +1,6 @@
 // What a set-up is given: which lengths, first numbers and cell limits it takes.
 #![tactic(auto)]
+
 ghost use Rattle.std.specs.Prelude.{◌≡◌};
 ghost use Rattle.spec.specs.Bytes.{limit_of, accepts};
 

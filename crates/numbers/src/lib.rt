@@ -1,5 +1,6 @@
 // Commit numbers that may be missing, and the newer of two versions.
 #![tactic(auto)]
+
 ghost use Rattle.std.specs.Prelude.{◌≡◌};
 ghost use Rattle.spec.specs.Numbers.{lesser, above, at_least, up_to};
 ghost use Rattle.spec.specs.Look.{newer, version_at};

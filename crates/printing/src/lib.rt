@@ -1,6 +1,7 @@
 // Printing for the step program: words, numbers and bytes. Each function appends to the text in out that ends at a
 // place, and answers where the text ends now. Definitions: crate spec, specs/Text.antt.
 #![tactic(auto)]
+
 ghost use Rattle.std.specs.Prelude.{◌≡◌, ◌+◌, ◌≤◌, ◌<◌, length};
 ghost use Rattle.spec.specs.Text.{decimal_of, hex_digit, hex_text};
 ghost use Rattle.printing.specs.Inner.{Put, Spelled, pair_of};

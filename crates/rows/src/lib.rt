@@ -1,5 +1,6 @@
 // Rows of fixed width in byte buffers: fields, new rows, a value replaced.
 #![tactic(auto)]
+
 ghost use Rattle.std.specs.Prelude.{◌≡◌, ◌+◌, ◌*◌, ◌≤◌, ◌<◌, length, replicate};
 ghost use Rattle.rows.specs.Inner.{RowAdded, ValueReplaced};
 ghost use Rattle.spec.specs.Rows.{data_width, commit_width, part, spliced, number, bytes_of, data_row, tag_of, cell_of};

@@ -1,5 +1,6 @@
 // The bytes of an input: where a line ends, and what is kept of a line that is begun.
 #![tactic(auto)]
+
 ghost use Rattle.std.specs.Prelude.{◌≡◌, true, ◌+◌, ◌-◌, ◌≤◌, length, take, drop};
 ghost use Rattle.scanning.specs.Inner.{most_kept, newline_from, NoNewline};
 

@@ -1,6 +1,7 @@
 // Answers as numbers, for programs in C: the refusal's number or 0, then what the call gives. Definitions: crate
 // spec, specs/Told.antt.
 #![tactic(auto)]
+
 ghost use Rattle.std.specs.Prelude.{◌≡◌};
 ghost use Rattle.spec.specs.Answers.{code, figure_of, begin_of, read_of, advance_of};
 ghost use Rattle.spec.specs.Told.{told_of, figure_told, begin_told, read_told, advance_told, in_numbers};

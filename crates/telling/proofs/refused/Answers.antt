@@ -1,0 +1,7 @@
+-- `telling::refused`: the number, and nothing else.
+-- Assumes nothing.
+use borrow.Author.Rules.{rules}
+use Rattle.telling.proofs.refused.Goals as goal
+
+pub returns : goal.returns
+returns c = rw c.code_of.ensures

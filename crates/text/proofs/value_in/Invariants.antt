@@ -1,0 +1,18 @@
+-- The bytes made so far with those of the digits to come are the whole value. Assumes nothing.
+use borrow.Author.Rules.{rules}
+use Prim.Native.Nat.{◌+◌, ◌*◌, ◌-◌, ◌≤◌, ◌<◌}
+use mathlib.Core.Path.{◌≡◌, refl, ap, ◌∙◌}
+use mathlib.Core.List.{◌++◌}
+use native.Mathlib.Omega.{arith}
+use lib.ListN.{length, get_or, take, drop, length-set}
+use borrow.Author.Tests.{le-leb, lt-leb}
+use Rattle.spec.specs.Text.{hex_val, hex_bytes, value_in}
+use Rattle.text.proofs.HexDigits.{bytes_more, bytes_end}
+use Rattle.text.proofs.value_in.Given as goal
+
+abbrev pub invariant-loop-i : goal.invariant-loop-i
+invariant-loop-i l =
+    (l.i ≤ 16) × (length l.v ≡ 16) × (take l.i l.v ++ hex_bytes (16 - l.i) (drop (l.at + 2 * l.i) l.line) ≡ hex_bytes 16 (drop l.at l.line))
+
+abbrev pub decreases-loop-i : goal.decreases-loop-i
+decreases-loop-i l = 16 - l.i
