@@ -11,8 +11,7 @@ use Rattle.spec.specs.Rows.{row_at, rows_in, tag_of, has_tag}
 use Rattle.spec.specs.Share.{any}
 use Rattle.search.specs.Inner.{Last}
 use Rattle.search.proofs.Folds.{tag_yes, tag_no, any_at, any_none}
-use Rattle.search.proofs.has_rows.Statement.{statement}
-use Rattle.search.proofs.has_rows.Tie as tie
+use Rattle.search.proofs.has_rows.Goals as goal
 
 found : (tag n r : ℕ) (s : List ℕ) → Last (λ k. tag_of (row_at 24 k s) ≡ tag) n r → ltb 0 r ≡ any (has_tag tag) (rows_in 24 n s)
 found tag n r s pass = go (ltb 0 r) refl
@@ -24,10 +23,7 @@ found tag n r s pass = go (ltb 0 r) refl
     go false e =
         sym (any_none (has_tag tag) 24 n s (λ k b. tag_no tag (row_at 24 k s) (pass.misses k (omega (arith, ltb-false 0 r e)) b)))
 
-returns : tie.Need-returns
+pub returns : goal.returns
 returns c =
-    let a = c.before.before.args in
-    found a.tag a.used c.last-tagged.result a.rows.now c.last-tagged.ensures
-
-pub has-rows-spec : {M : Type 1} → statement M
-has-rows-spec = tie.close (tie.spec (λ c κs. search rules) returns)
+    let a = c.args in
+    found a.tag a.used c.last_tagged.result a.rows.now c.last_tagged.ensures
