@@ -1,46 +1,55 @@
 // Standard input and output of the step program: text written whole, and one chunk read behind bytes that are kept.
 #![tactic(auto)]
-ghost use Rattle.std.specs.Prelude.{◌≡◌, ◌≤◌, length, take};
+
+ghost use Rattle.std.specs.Prelude.{true, ◌≡◌, ◌≤◌, ◌+◌, length, take, drop, IfOk, MatchResult};
+ghost use Rattle.std.specs.Io.KnownBytes.{Appends, Consumes, Keeps};
+
+use std::io;
+use std::io::{Read, Write};
 
 // Writes the text in out that ends at a place; false where that fails.
-pub fn flush(out: &[u8], used: usize) -> bool
+pub fn flush<W: Write>(output: &mut W, out: &[u8], used: usize) -> bool
     requires { used ≤ length out.now }
+    ensures { result ≡ true → Appends (W.contents output.old) (W.contents output.new) (take used out.now) }
 {
-    io::write_all(1, &out[..used])
+    output.write_all(&out[..used]).is_ok()
 }
 
-// One read behind the bytes that are kept, which stay: how many bytes came, or a negative number.
-fn read_once(buf: &mut [u8], have: usize) -> isize
+// One read behind the bytes that are kept, which stay: how many bytes came, or why none did.
+fn read_once<R: Read>(input: &mut R, buf: &mut [u8], have: usize) -> io::Result<usize>
     requires { have ≤ length buf.old }
-    ensures { take have buf.new ≡ take have buf.old }
+    ensures kept { take have buf.new ≡ take have buf.old }
+    ensures within { IfOk result (λ n. have + n ≤ length buf.new) }
+    ensures taken { MatchResult result
+        (λ n. Consumes (R.remaining input.old) (R.remaining input.new) (take n (drop have buf.new)))
+        (λ _. Keeps (R.remaining input.old) (R.remaining input.new)) }
 {
-    libc::read(0, &mut buf[have..])
+    input.read(&mut buf[have..])
 }
 
 // Where the bytes that a read put behind the kept ones end.
-fn end_of(buf: &[u8], have: usize, got: isize) -> usize
+fn end_of(buf: &[u8], have: usize, got: usize) -> usize
     requires { have ≤ length buf.now }
-    ensures { (have ≤ result) × (result ≤ length buf.now) }
+    ensures between { (have ≤ result) × (result ≤ length buf.now) }
+    ensures all { have + got ≤ length buf.now → result ≡ have + got }
 {
     let rest = &buf[have..];
-    have + io::count(got, rest)
+    have + got.min(rest.len())
 }
 
 // Reads behind the bytes that are kept, which stay, and answers where what was read ends: at once where the input
 // has ended. A read that fails, as one that a signal interrupts, is tried again, 1,000 times at most; then the
 // input counts as ended.
-pub fn read_after(buf: &mut [u8], have: usize) -> usize
+pub fn read_after<R: Read>(input: &mut R, buf: &mut [u8], have: usize) -> usize
     requires { have ≤ length buf.old }
-    ensures lower_bound { (have ≤ result) × (result ≤ length buf.new) }
-    ensures buf_unchanged { take have buf.new ≡ take have buf.old }
+    ensures between { (have ≤ result) × (result ≤ length buf.new) }
+    ensures kept { take have buf.new ≡ take have buf.old }
+    ensures taken { Consumes (R.remaining input.old) (R.remaining input.new) (drop have (take result buf.new)) }
 {
-    let mut tries: u32 = 1000;
-    while 0 < tries {
-        let got = read_once(buf, have);
-        if 0 <= got {
+    for _ in 0..1000u32 {
+        if let Ok(got) = read_once(input, buf, have) {
             return end_of(buf, have, got);
         }
-        tries -= 1;
     }
     have
 }
