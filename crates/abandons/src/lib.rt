@@ -2,7 +2,7 @@
 #![tactic(auto)]
 ghost use Rattle.spec.specs.Answers.{figure_of};
 ghost use Rattle.spec.specs.Calls.{abandon};
-ghost use Rattle.record.specs.Inner.{columns, PerformsOn};
+ghost use Rattle.record.specs.Inner.{columns, PerformsOn, shared};
 
 use record::{FigureResult, Head};
 use spec::{CLIENTS, FigureAnswer, LIMIT, Refusal, Set};
@@ -22,7 +22,7 @@ pub fn abandon(
     client: u32,
 ) -> FigureResult
     ensures { PerformsOn (abandon client) h
-        (columns stage number snapshot request commit request_waits commit_waits) rows commits
+        (columns stage number snapshot request commit request_waits commit_waits) rows (shared commits)
         result.head (figure_of result.answer) }
 {
     if !record::fit(h, stage, rows.len(), commits.len()) {

@@ -3,7 +3,7 @@
 ghost use Rattle.std.specs.Prelude.{◌≡◌};
 ghost use Rattle.spec.specs.Answers.{begin_of};
 ghost use Rattle.spec.specs.Calls.{begin};
-ghost use Rattle.record.specs.Inner.{columns, PerformsOn};
+ghost use Rattle.record.specs.Inner.{columns, PerformsOn, shared};
 
 use record::Head;
 use spec::{BeginAnswer, Begun, CLIENTS, LIMIT, Refusal, Set, TOP};
@@ -38,7 +38,7 @@ pub fn begin(
     client: u32,
 ) -> BeginResult
     ensures { PerformsOn (begin client) h
-        (columns stage number snapshot request commit request_waits commit_waits) rows commits
+        (columns stage number snapshot request commit request_waits commit_waits) (shared rows) (shared commits)
         result.head (begin_of result.answer) }
 {
     if !record::fit(h, stage, rows.len(), commits.len()) {

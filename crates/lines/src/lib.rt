@@ -7,7 +7,7 @@ ghost use Rattle.spec.specs.Text.{value_in};
 ghost use Rattle.spec.specs.Values.{value_from};
 ghost use Rattle.spec.specs.Session.{said, set_up_response, answer_to};
 ghost use Rattle.printing.specs.Inner.{answer_room};
-ghost use Rattle.record.specs.Inner.{columns, unseen};
+ghost use Rattle.record.specs.Inner.{columns, unseen, shared};
 ghost use Rattle.lines.specs.Inner.{Front, Says};
 
 use record::Head;
@@ -102,7 +102,7 @@ fn begin_said(
 ) -> Answered
     requires { at + answer_room ≤ length out.old }
     ensures { (v : List ℕ) → Says (said (Form.Begin client) (Begin client)) h
-        (columns stage number snapshot request commit request_waits commit_waits) rows commits (unseen v)
+        (columns stage number snapshot request commit request_waits commit_waits) (shared rows) (shared commits) (unseen v)
         out at result }
 {
     let d = front(DATA_ROW * h.rows as usize, rows.len());
@@ -154,7 +154,7 @@ fn read_said(
 ) -> Answered
     requires { at + answer_room ≤ length out.old }
     ensures { (q m b w : List ℕ) → Says (said (Form.Read client cell) (Read client cell)) h
-        (columns stage number snapshot (unseen q) (unseen m) (unseen b) (unseen w)) rows commits versions
+        (columns (shared stage) (shared number) (shared snapshot) (unseen q) (unseen m) (unseen b) (unseen w)) (shared rows) (shared commits) versions
         out at result }
 {
     let d = front(DATA_ROW * h.rows as usize, rows.len());
@@ -192,7 +192,7 @@ fn write_said(
     requires { at + answer_room ≤ length out.old }
     ensures { (s q m b w v : List ℕ) → Says
         (said (Form.Write client cell place) (Write client cell (value_in line.now place))) h
-        (columns stage number (unseen s) (unseen q) (unseen m) (unseen b) (unseen w)) rows commits (unseen v)
+        (columns (shared stage) (shared number) (unseen s) (unseen q) (unseen m) (unseen b) (unseen w)) rows (shared commits) (unseen v)
         out at result }
 {
     let d = front(DATA_ROW * h.rows as usize, rows.len());
@@ -281,7 +281,7 @@ fn abandon_said(
 ) -> Answered
     requires { at + answer_room ≤ length out.old }
     ensures { (v : List ℕ) → Says (said (Form.Abandon client) (Abandon client)) h
-        (columns stage number snapshot request commit request_waits commit_waits) rows commits (unseen v)
+        (columns stage number snapshot request commit request_waits commit_waits) rows (shared commits) (unseen v)
         out at result }
 {
     let d = front(DATA_ROW * h.rows as usize, rows.len());
@@ -317,7 +317,7 @@ fn trim_said(
 ) -> Answered
     requires { at + answer_room ≤ length out.old }
     ensures { (q m b w v : List ℕ) → Says (said Form.Trim Trim) h
-        (columns stage number snapshot (unseen q) (unseen m) (unseen b) (unseen w)) rows commits (unseen v)
+        (columns (shared stage) (shared number) (shared snapshot) (unseen q) (unseen m) (unseen b) (unseen w)) rows commits (unseen v)
         out at result }
 {
     let d = front(DATA_ROW * h.rows as usize, rows.len());
@@ -346,7 +346,7 @@ fn free_said(
 ) -> Answered
     requires { at + answer_room ≤ length out.old }
     ensures { (n s q m b w v : List ℕ) → Says (said Form.Free Free) h
-        (columns stage (unseen n) (unseen s) (unseen q) (unseen m) (unseen b) (unseen w)) rows commits (unseen v)
+        (columns (shared stage) (unseen n) (unseen s) (unseen q) (unseen m) (unseen b) (unseen w)) (shared rows) (shared commits) (unseen v)
         out at result }
 {
     let d = front(DATA_ROW * h.rows as usize, rows.len());

@@ -5,7 +5,7 @@ ghost use Rattle.std.specs.Prelude.{◌≡◌, List, ℕ, ◌*◌, ◌≤◌, �
 ghost use Rattle.spec.specs.Rows.{data_width};
 ghost use Rattle.spec.specs.Set.{clients};
 ghost use Rattle.spec.specs.Steps.{request_queue, commit_queue, list_requests, looked, look_requests, list_commits, look_commits};
-ghost use Rattle.record.specs.Inner.{columns, unseen};
+ghost use Rattle.record.specs.Inner.{columns, unseen, shared};
 ghost use Rattle.queues.specs.Inner.{Step};
 
 use record::{AdvanceResult, Head};
@@ -45,8 +45,8 @@ pub fn list_requests(
     requires client_lt_clients { client < clients }
     requires used_in_bounds { data_width * h.used ≤ length rows.now }
     ensures { (s q m w c : List ℕ) → Step (list_requests client) h
-        (columns stage number (unseen s) (unseen q) (unseen m) request_waits (unseen w))
-        rows (unseen c) result }
+        (columns stage (shared number) (unseen s) (unseen q) (unseen m) request_waits (unseen w))
+        (shared rows) (unseen c) result }
 {
     let queue = request_queue();
     let k = client as usize;
@@ -83,7 +83,7 @@ pub fn look_requests(
 ) -> AdvanceResult
     requires { client < clients }
     ensures { (n s m w d c : List ℕ) → Step (look_requests client) h
-        (columns stage (unseen n) (unseen s) request (unseen m) request_waits (unseen w))
+        (columns stage (unseen n) (unseen s) (shared request) (unseen m) request_waits (unseen w))
         (unseen d) (unseen c) result }
 {
     let queue = request_queue();
@@ -123,7 +123,7 @@ pub fn look_commits(
 ) -> AdvanceResult
     requires { client < clients }
     ensures { (n s q b d c : List ℕ) → Step (look_commits client) h
-        (columns stage (unseen n) (unseen s) (unseen q) commit (unseen b) commit_waits)
+        (columns stage (unseen n) (unseen s) (unseen q) (shared commit) (unseen b) commit_waits)
         (unseen d) (unseen c) result }
 {
     let queue = commit_queue();

@@ -6,7 +6,7 @@ ghost use Rattle.spec.specs.Rows.{data_width, data_rows_in};
 ghost use Rattle.spec.specs.Share.{cells_of};
 ghost use Rattle.spec.specs.Answers.{figure_of};
 ghost use Rattle.spec.specs.Calls.{added, replaced};
-ghost use Rattle.record.specs.Inner.{columns, unseen, Transforms};
+ghost use Rattle.record.specs.Inner.{columns, unseen, Transforms, shared};
 
 use record::{FigureResult, Head};
 use spec::{CLIENTS, FigureAnswer, Refusal};
@@ -27,7 +27,7 @@ pub fn new_row(
     requires value_len { length value.now ≡ 16 }
     requires rows_value { leb h.limit (cells_of (get_or number.now client 0) (data_rows_in h.used rows.old)) ≡ false }
     ensures { (g s q m b w c : List ℕ) → Transforms (added client cell value.now) h
-        (columns (unseen g) number (unseen s) (unseen q) (unseen m) (unseen b) (unseen w)) rows (unseen c)
+        (columns (unseen g) (shared number) (unseen s) (unseen q) (unseen m) (unseen b) (unseen w)) rows (unseen c)
         result.head (figure_of result.answer) }
 {
     if h.rows <= h.used {
@@ -60,7 +60,7 @@ pub fn counted_row(
     requires cell_bound { cell < 1024 }
     requires value_len { length value.now ≡ 16 }
     ensures { (g s q m b w c : List ℕ) → Transforms (added client cell value.now) h
-        (columns (unseen g) number (unseen s) (unseen q) (unseen m) (unseen b) (unseen w)) rows (unseen c)
+        (columns (unseen g) (shared number) (unseen s) (unseen q) (unseen m) (unseen b) (unseen w)) rows (unseen c)
         result.head (figure_of result.answer) }
 {
     let most = h.limit as usize;

@@ -7,7 +7,7 @@ ghost use Rattle.spec.specs.Values.{value_read};
 ghost use Rattle.spec.specs.Look.{versions_after};
 ghost use Rattle.spec.specs.Rows.{cells};
 ghost use Rattle.spec.specs.Image.{clients_of};
-ghost use Rattle.record.specs.Inner.{whole, columns, unseen, PerformsOn, PerformsWith};
+ghost use Rattle.record.specs.Inner.{whole, columns, unseen, PerformsOn, PerformsWith, shared};
 ghost use Rattle.reads.specs.Inner.{Seeks, OfCell};
 
 use record::Head;
@@ -103,7 +103,7 @@ pub fn read(
     cell: u32,
 ) -> ReadAnswer
     ensures { (q m b w : List ℕ) → PerformsWith (read client cell) h
-        (columns stage number snapshot (unseen q) (unseen m) (unseen b) (unseen w)) rows commits versions
+        (columns (shared stage) (shared number) (shared snapshot) (unseen q) (unseen m) (unseen b) (unseen w)) (shared rows) (shared commits) versions
         h (read_of result) }
 {
     if versions.len() != VERSIONS {
@@ -139,7 +139,7 @@ pub fn value<'a>(rows: &'a [u8], at: usize) -> &'a [u8]
 // Free answers how many data rows are not in use.
 pub fn free(h: Head, stage: &[u32; CLIENTS], rows: &[u8], commits: &[u8]) -> FigureAnswer
     ensures { (n s q m b w : List ℕ) → PerformsOn free h
-        (columns stage (unseen n) (unseen s) (unseen q) (unseen m) (unseen b) (unseen w)) rows commits
+        (columns (shared stage) (unseen n) (unseen s) (unseen q) (unseen m) (unseen b) (unseen w)) (shared rows) (shared commits)
         h (figure_of result) }
 {
     if !record::fit(h, stage, rows.len(), commits.len()) {

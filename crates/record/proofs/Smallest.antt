@@ -1,7 +1,7 @@
 -- The smallest snapshot of open clients, one client further.
 -- Assumes nothing.
 use Prim.Native.Nat.{ℕ, suc, ◌<◌, ◌≤◌}
-use mathlib.Core.Path.{◌≡◌, refl, ◌∙◌}
+use mathlib.Core.Path.{◌≡◌, refl, ap, ◌∙◌}
 use mathlib.Core.Bool.{Bool, true, false}
 use mathlib.Core.List.{List}
 use native.Mathlib.Omega.{arith}
@@ -38,7 +38,7 @@ lesser_old s b h g = rw (lt-ltb b 4294967296 (omega (arith, h, g))) (go (ltb b s
 pub one_lower : (l p : List ℕ) (k b r : ℕ) {m : ℕ} → m ≡ suc k → Lowers b (get_or l k 0) (get_or p k 0) r
     → SmallestOpen l p k b → SmallestOpen l p m r
 unfolding readers smallest
-one_lower l p k b r e i f x n s = i ∙ rw (e, f x n s, n, s)
+one_lower l p k b r e i f x n s = rw e (rw (← n, ← s) at i ∙ ap (lesser _) (f x n s))
 
 -- one more closed client
 pub closed_more : (l : List ℕ) (k m : ℕ) {q : ℕ} → q ≡ suc m → get_or l m 0 ≡ 0 → AllClosed l k m → AllClosed l k q

@@ -1,7 +1,7 @@
 -- What the contracts of inner functions need beyond the words of the papers: nobody has to believe it.
 -- Assumes nothing.
 use Rattle.std.specs.Prelude.{ℕ, ◌≡◌, Bool, not, List, ltb, eqb}
-use Rattle.std.specs.Borrow.{Bor}
+use Rattle.std.specs.Borrow.{Bor, MutBor}
 use denote.Triple.Both.{Both}
 use Rattle.std.specs.Prelude.{if◌then◌else◌}
 use Rattle.spec.specs.Numbers.{lesser, smallest}
@@ -22,14 +22,25 @@ whole h k = record_of h.rows h.limit (counters_of h.issued h.requested h.taken h
 
 -- a lent list, as a contract sees it: before and after
 abbrev pub Lent : Type 0
-Lent = Both (Bor (List ℕ)) (Bor (List ℕ))
+Lent = Both (MutBor (List ℕ)) (MutBor (List ℕ))
+
+-- the same of a list that is lent to be read
+abbrev pub shared : Both (Bor (List ℕ)) (Bor (List ℕ)) → Lent
+shared b = record {
+  entry = record { ref_ptr = b.entry.ref_ptr; ghost_name = 0; now = b.entry.now };
+  exit = record { ref_ptr = b.exit.ref_ptr; ghost_name = 0; now = b.exit.now };
+}
 
 -- a list that a function is not lent, and does not change
 abbrev pub unseen : List ℕ → Lent
-unseen l = record { entry = record { ref_ptr = (0, 0); now = l }; exit = record { ref_ptr = (0, 0); now = l } }
+unseen l = record {
+  entry = record { ref_ptr = (0, 0); ghost_name = 0; now = l };
+  exit = record { ref_ptr = (0, 0); ghost_name = 0; now = l };
+}
 
 -- the columns where a contract sees them once
-abbrev pub columns_now : Bor (List ℕ) → Bor (List ℕ) → Bor (List ℕ) → Bor (List ℕ) → Bor (List ℕ) → Bor (List ℕ) → Bor (List ℕ) → Clients
+abbrev pub columns_now : MutBor (List ℕ) → MutBor (List ℕ) → MutBor (List ℕ) → MutBor (List ℕ) → MutBor (List ℕ) → MutBor (List ℕ) → MutBor (List ℕ)
+    → Clients
 columns_now g n s q m r w = clients_of g.now n.now s.now q.now m.now r.now w.now
 
 -- all columns, before and after

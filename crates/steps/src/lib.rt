@@ -5,7 +5,7 @@ ghost use Rattle.std.specs.Prelude.{List, ℕ, ◌*◌, ◌≤◌, ◌<◌, leng
 ghost use Rattle.spec.specs.Rows.{data_width, commit_width};
 ghost use Rattle.spec.specs.Set.{clients};
 ghost use Rattle.spec.specs.Steps.{enter, check, add_commit};
-ghost use Rattle.record.specs.Inner.{columns, unseen};
+ghost use Rattle.record.specs.Inner.{columns, unseen, shared};
 ghost use Rattle.queues.specs.Inner.{Step};
 ghost use Rattle.steps.specs.Inner.{Removed};
 
@@ -29,7 +29,7 @@ pub fn enter(
     requires used_in_bounds { data_width * h.used ≤ length rows.now }
     ensures { (c : List ℕ) → Step (enter client) h
         (columns stage number snapshot request commit request_waits commit_waits)
-        rows (unseen c) result }
+        (shared rows) (unseen c) result }
 {
     let k = client as usize;
     let own = number[k];
@@ -109,7 +109,7 @@ pub fn check(
     requires used_bound { h.used ≤ 1024 }
     requires entries_in_bounds { commit_width * h.entries ≤ length commits.now }
     ensures { Step (check client) h
-        (columns stage number snapshot request commit request_waits commit_waits) rows commits result }
+        (columns stage number snapshot request commit request_waits commit_waits) rows (shared commits) result }
 {
     let k = client as usize;
     let own = number[k];
@@ -150,7 +150,7 @@ pub fn add_commit(
     requires rows_in_bounds { commit_width * h.rows ≤ length commits.old }
     requires rows_bound { h.rows ≤ 1024 }
     ensures { (s q b w d : List ℕ) → Step (add_commit client) h
-        (columns stage number (unseen s) (unseen q) commit (unseen b) (unseen w))
+        (columns stage (shared number) (unseen s) (unseen q) (shared commit) (unseen b) (unseen w))
         (unseen d) commits result }
 {
     if h.rows <= h.entries {

@@ -6,7 +6,7 @@ ghost use Rattle.spec.specs.Image.{clients_of};
 ghost use Rattle.spec.specs.Answers.{figure_of};
 ghost use Rattle.spec.specs.Bytes.{decode};
 ghost use Rattle.spec.specs.Calls.{low, trim};
-ghost use Rattle.record.specs.Inner.{whole, columns, unseen, PerformsOn, Transforms};
+ghost use Rattle.record.specs.Inner.{whole, columns, unseen, PerformsOn, Transforms, shared};
 
 use record::{FigureResult, Head, NO_SNAPSHOT};
 use spec::{CLIENTS, FigureAnswer, Refusal};
@@ -48,7 +48,7 @@ pub fn trim(
     commits: &mut [u8],
 ) -> FigureResult
     ensures { (q m b w : List ℕ) → PerformsOn trim h
-        (columns stage number snapshot (unseen q) (unseen m) (unseen b) (unseen w)) rows commits
+        (columns (shared stage) (shared number) (shared snapshot) (unseen q) (unseen m) (unseen b) (unseen w)) rows commits
         result.head (figure_of result.answer) }
 {
     if !record::fit(h, stage, rows.len(), commits.len()) {

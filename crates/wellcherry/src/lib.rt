@@ -7,7 +7,7 @@ ghost use Rattle.std.specs.Prelude.{◌≡◌, List, ℕ};
 ghost use Rattle.spec.specs.Calls.{abandon, begin, free, read, trim, write};
 ghost use Rattle.spec.specs.Steps.{advance};
 ghost use Rattle.spec.specs.Told.{told_of, figure_told, begin_told, read_told, advance_told};
-ghost use Rattle.record.specs.Inner.{columns, unseen};
+ghost use Rattle.record.specs.Inner.{columns, unseen, shared};
 ghost use Rattle.wellcherry.specs.Inner.{head_in, TellsOn, TellsWith, TellsNew};
 
 use record::Head;
@@ -145,7 +145,7 @@ pub extern "C" fn wellcherry_call_begin(
     client: u32,
 ) -> BeginGiven
     ensures { TellsOn begin_told (begin client) head
-        (columns stage number snapshot request commit request_waits commit_waits) rows commits
+        (columns stage number snapshot request commit request_waits commit_waits) (shared rows) (shared commits)
         (told_of result.refusal result.number result.snapshot) }
 {
     let done = begins::begin(
@@ -186,8 +186,8 @@ pub extern "C" fn wellcherry_call_read(
     client: u32,
     cell: u32,
 ) -> ReadGiven
-    ensures { (q m b w : List ℕ) → TellsWith read_told (read client cell) head
-        (columns stage number snapshot (unseen q) (unseen m) (unseen b) (unseen w)) rows commits versions
+    ensures { (q m b w : List ℕ) → TellsWith read_told (read client cell) (shared head)
+        (columns (shared stage) (shared number) (shared snapshot) (unseen q) (unseen m) (unseen b) (unseen w)) (shared rows) (shared commits) versions
         (told_of result.refusal result.found result.row) }
 {
     let answer = reads::read(
@@ -222,7 +222,7 @@ pub extern "C" fn wellcherry_call_write(
     value: &[u8],
 ) -> FigureGiven
     ensures { (s q m b w : List ℕ) → TellsOn figure_told (write client cell value.now) head
-        (columns stage number (unseen s) (unseen q) (unseen m) (unseen b) (unseen w)) rows commits
+        (columns (shared stage) (shared number) (unseen s) (unseen q) (unseen m) (unseen b) (unseen w)) rows (shared commits)
         (told_of result.refusal result.figure 0) }
 {
     let done = writes::write(
@@ -304,7 +304,7 @@ pub extern "C" fn wellcherry_call_abandon(
     client: u32,
 ) -> FigureGiven
     ensures { TellsOn figure_told (abandon client) head
-        (columns stage number snapshot request commit request_waits commit_waits) rows commits
+        (columns stage number snapshot request commit request_waits commit_waits) rows (shared commits)
         (told_of result.refusal result.figure 0) }
 {
     let done = abandons::abandon(
@@ -341,7 +341,7 @@ pub extern "C" fn wellcherry_call_trim(
     commits: &mut [u8],
 ) -> FigureGiven
     ensures { (q m b w : List ℕ) → TellsOn figure_told trim head
-        (columns stage number snapshot (unseen q) (unseen m) (unseen b) (unseen w)) rows commits
+        (columns (shared stage) (shared number) (shared snapshot) (unseen q) (unseen m) (unseen b) (unseen w)) rows commits
         (told_of result.refusal result.figure 0) }
 {
     let done = trims::trim(head_in(head), stage, number, snapshot, rows, commits);
@@ -363,8 +363,8 @@ pub extern "C" fn wellcherry_call_free(
     rows: &[u8],
     commits: &[u8],
 ) -> FigureGiven
-    ensures { (n s q m b w : List ℕ) → TellsOn figure_told free head
-        (columns stage (unseen n) (unseen s) (unseen q) (unseen m) (unseen b) (unseen w)) rows commits
+    ensures { (n s q m b w : List ℕ) → TellsOn figure_told free (shared head)
+        (columns (shared stage) (unseen n) (unseen s) (unseen q) (unseen m) (unseen b) (unseen w)) (shared rows) (shared commits)
         (told_of result.refusal result.figure 0) }
 {
     let answer = reads::free(head_in(head), stage, rows, commits);

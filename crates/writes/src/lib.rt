@@ -3,7 +3,7 @@
 ghost use Rattle.std.specs.Prelude.{List, ℕ};
 ghost use Rattle.spec.specs.Answers.{figure_of};
 ghost use Rattle.spec.specs.Calls.{write};
-ghost use Rattle.record.specs.Inner.{columns, unseen, PerformsOn};
+ghost use Rattle.record.specs.Inner.{columns, unseen, PerformsOn, shared};
 
 use record::{FigureResult, Head};
 use search::Own;
@@ -21,7 +21,7 @@ pub fn write(
     value: &[u8],
 ) -> FigureResult
     ensures { (s q m b w : List ℕ) → PerformsOn (write client cell value.now) h
-        (columns stage number (unseen s) (unseen q) (unseen m) (unseen b) (unseen w)) rows commits
+        (columns (shared stage) (shared number) (unseen s) (unseen q) (unseen m) (unseen b) (unseen w)) rows (shared commits)
         result.head (figure_of result.answer) }
 {
     if !record::fit(h, stage, rows.len(), commits.len()) {

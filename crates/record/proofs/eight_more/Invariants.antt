@@ -1,0 +1,16 @@
+-- `record::eight_more`: the smallest of the clients passed.
+-- Assumes nothing.
+use mathlib.Core.Path.{◌≡◌}
+use Prim.Native.Nat.{◌+◌, ◌≤◌, ◌-◌}
+use native.Mathlib.Omega.{arith}
+use borrow.Author.Rules.{rules}
+use Rattle.record.specs.Inner.{SmallestOpen}
+use Rattle.record.proofs.Smallest.{one_lower}
+use Rattle.record.proofs.eight_more.Given as goal
+
+abbrev pub invariant-loop-j : goal.invariant-loop-j
+invariant-loop-j l =
+    (l.j ≤ 8) × (SmallestOpen l.number l.snapshot l.from l.best → SmallestOpen l.number l.snapshot (l.from + l.j) l.next)
+
+abbrev pub decreases-loop-j : goal.decreases-loop-j
+decreases-loop-j l = 8 - l.j
