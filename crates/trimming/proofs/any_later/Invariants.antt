@@ -1,0 +1,21 @@
+-- Any row later among all is any among the rows from i on.
+use Prim.Native.Nat.{◌-◌}
+use mathlib.Core.Path.{◌≡◌, sym, ap, ◌∙◌}
+use mathlib.Core.List.{List}
+use borrow.Author.Rules.{rules}
+use native.Mathlib.Omega.{arith}
+use Rattle.spec.specs.Rows.{Row, rows_in, rows_from}
+use Rattle.spec.proofs.Rows.{rows_start}
+use Rattle.spec.specs.Share.{any}
+use Rattle.spec.specs.Trim.{later}
+use Rattle.trimming.specs.Inner.{Numbers}
+use Rattle.search.proofs.Folds.{any_step, any_end}
+use Rattle.trimming.proofs.any_later.Given as goal
+
+abbrev pub invariant-loop-i : goal.invariant-loop-i
+invariant-loop-i l =
+    (cs : List Row) → Numbers l.used cs l.rows l.numbers
+    → any (later cs l.low l.cell l.n) (rows_in 24 l.used l.rows) ≡ any (later cs l.low l.cell l.n) (rows_from 24 l.used l.i l.rows)
+
+abbrev pub decreases-loop-i : goal.decreases-loop-i
+decreases-loop-i l = l.used - l.i

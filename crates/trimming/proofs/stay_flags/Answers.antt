@@ -1,0 +1,30 @@
+-- The flags below i are right.
+use Prim.Native.Nat.{ℕ, ◌-◌, ◌<◌}
+use mathlib.Core.Path.{◌≡◌, refl}
+use lib.ListN.{length, get_or, length-set}
+use borrow.Author.Rules.{rules}
+use native.Mathlib.Omega.{arith}
+use Rattle.std.specs.Prelude.{if◌then◌else◌}
+use Rattle.spec.specs.Rows.{row_at, rows_in}
+use Rattle.spec.specs.Trim.{stays}
+use Rattle.removal.proofs.Moving.{stored_more}
+use Rattle.trimming.proofs.stay_flags.Goals as goal
+
+pub note_rows-numbers-requires : goal.note_rows-numbers-requires
+note_rows-numbers-requires c =
+    (record { used_in_bounds = c.requires.used_in_bounds; used_bound = c.requires.used_bound; entries_in_bounds = c.requires.entries_in_bounds; entries_bound = c.requires.entries_bound; newest_value = refl })
+
+pub loop-i-preserved : goal.loop-i-preserved
+loop-i-preserved c =
+    let a = c.args in
+    let loop = c.loop-i in
+    let ds = rows_in 24 a.used a.rows.now in
+    let cs = rows_in 8 a.entries a.commits.now in (
+      simp length-set loop.invariant.0,
+      stored_more (λ k. if stays a.low ds cs (row_at 24 k a.rows.now) then 1 else 0) loop.flags loop.i c.stay_flag.result
+          (omega arith) loop.invariant.1
+          (c.stay_flag.ensures cs c.note_rows-numbers.ensures.numbers c.note_rows-numbers.ensures.newest),
+    )
+
+pub returns : goal.returns
+returns c = record { size = c.loop-i.invariant.0; each = λ k h. c.loop-i.invariant.1 k (omega arith) }
