@@ -13,15 +13,14 @@ returns-then-entries-eq0 c =
 pub commit_flags-marks-requires : goal.commit_flags-marks-requires
 commit_flags-marks-requires c =
     let a = c.args in
-    let first = c.close_up-left in
     let few = kept_at_most c.stay_flags-flags.result 24 a.used a.rows.now in
-    omega (arith, first.ensures.rows, first.auto.0, c.requires)
+    omega (arith, c.close_up-left.ensures.rows, c.close_up-left.auto.buf, c.requires)
 
 pub returns : goal.returns
 returns c =
     let a = c.args in
     let stay = c.stay_flags-flags in
     let marks = c.commit_flags-marks in
-    trim_leaves a.low a.used a.entries a.rows.now a.commits.now stay.result marks.result c.close_up-left.new.0
+    trim_leaves a.low a.used a.entries a.rows.now a.commits.now stay.result marks.result c.close_up-left.new.buf
     c.close_up-kept.new.buf c.close_up-left.result c.close_up-kept.result
-    c.pre.0 stay.ensures c.close_up-left.ensures marks.ensures c.close_up-kept.ensures
+    c.requires.used_in_bounds stay.ensures c.close_up-left.ensures marks.ensures c.close_up-kept.ensures

@@ -10,35 +10,27 @@ use Rattle.spec.specs.Bytes.{decode, store_of}
 use Rattle.record.specs.Inner.{whole, columns_now}
 use Rattle.steps.proofs.Outcomes.{removed_store}
 use borrow.Author.Rules.{rules}
-use Rattle.steps.proofs.remove.Statement.{statement}
-use Rattle.steps.proofs.remove.Tie as tie
+use Rattle.steps.proofs.remove.Goals as goal
 
-cast-left : tie.Need-overflow-cast-left
-cast-left c =
-    let a = c.before.before.before.before.before.before.before.args in
+pub overflow_cast-left : goal.overflow_cast-left
+overflow_cast-left c =
+    let a = c.args in
     let n = get_or a.number.now a.client 0 in
     let used = a.h.used in
     omega (
       arith,
-      c.before.before.remove-rows.ensures.rows,
+      c.remove_rows-left.ensures.rows,
       filter_fewer (other_tag n) (rows_in 24 used a.rows.now),
       length_rows 24 used a.rows.now,
     )
 
-returns : tie.Need-returns
+pub returns : goal.returns
 unfolding removed decode store_of other_tag
 returns c =
-    let a = c.before.before.before.before.before.before.before.before.before.before.before.before.before.before.before.args in
-    let r = c.before.before.before.before.before.before.before.before.before.before.remove-rows in
+    let a = c.args in
+    let r = c.remove_rows-left in
     let s = whole a.h (columns_now a.stage a.number a.snapshot a.request a.commit a.request_waits a.commit_waits) in
     record {
       store = λ e v. removed_store s a.rows.now e v a.client _ _ c.close.ensures r.ensures.rows;
       bytes = λ e v. r.ensures.bytes;
     }
-
-pub remove-spec : {M : Type 1} → statement M
-remove-spec =
-    tie.close
-    (tie.spec
-    (λ c. search rules) (λ c. search rules) (λ c. search rules) (λ c κs. search rules) cast-left (λ c κs. search rules) (λ c. search rules)
-    returns)
