@@ -2,6 +2,7 @@
 #   make run    proves and builds everything, then runs the step program on an example
 #   make test   runs all tests; its last line is 'N passed, 0 failed'
 # Further:
+#   make build                    proves everything and builds the step program, target/bin/step
 #   make lib                      proves and builds the library for C, target/staticlib/libwellcherry.a
 #   make install PREFIX=..        installs it, with c/wellcherry.h and a pkg-config file
 #   make picture SCRIPT=..        who waits for whom in a script, as target/NAME.svg
@@ -18,6 +19,9 @@ PREFIX ?= /usr/local
 CALLS ?= 10000000
 LINES ?= 400000
 SEEDS ?= 8
+# how many crates are proved at a time
+JOBS ?= $(shell nproc)
+SOURCES = crates.txt $(shell find crates -name out -prune -o \( -name '*.rt' -o -name '*.antt' \) -print)
 CARGO = cargo --quiet
 TICKETS = $(shell cat tests/tickets)
 # the landed tickets but 9: the tournament desk's stored runs are those of before it
@@ -31,14 +35,22 @@ run: build
 test:
 	tests/all.sh
 
-build:
-	rt check
+build: target/bin/step
 
 lib: target/staticlib/libwellcherry.a
 
-# rt proves again what has changed since; what has not is not built anew
-target/staticlib/libwellcherry.a: crates.txt $(shell find crates -name '*.rt' -o -name '*.antt')
-	rt staticlib wellcherry
+# rt proves again what has changed since, and leaves what it builds in the crate's out/. It builds a program to run it: here on no input.
+target/bin/step: $(SOURCES)
+	rt all check --jobs $(JOBS)
+	cd crates/step && rt run </dev/null
+	mkdir -p $(@D)
+	cp crates/step/out/step $@
+
+# the crate and those below it alone
+target/staticlib/libwellcherry.a: $(SOURCES)
+	cd crates/wellcherry && rt all check --jobs $(JOBS) && rt lib
+	mkdir -p $(@D)
+	cp crates/wellcherry/out/libwellcherry.a $@
 
 VERSION = $(shell sed -n 's/.define WELLCHERRY_VERSION "\(.*\)"/\1/p' c/wellcherry.h)
 

@@ -40,7 +40,7 @@ fn started() -> (Child, ChildStdin, ChildStdout) {
         .stdin(Stdio::piped())
         .stdout(Stdio::piped())
         .spawn()
-        .expect("the step program is built by `rt check`");
+        .expect("the step program is built by `make build`");
     let (stdin, stdout) = (child.stdin.take().expect("piped"), child.stdout.take().expect("piped"));
     (child, stdin, stdout)
 }

@@ -19,7 +19,9 @@ fn text(path: &str) -> String {
 fn uses() -> BTreeMap<String, Vec<String>> {
     let listed = text("crates.txt");
     let lines = listed.lines().filter(|line| !line.starts_with('#')).filter_map(|line| line.split_once(':'));
-    lines.map(|(name, used)| (name.to_string(), used.split_whitespace().map(str::to_string).collect())).collect()
+    // (a static library's line has that word behind the name)
+    let name = |said: &str| said.split_whitespace().next().expect("a name").to_string();
+    lines.map(|(said, used)| (name(said), used.split_whitespace().map(str::to_string).collect())).collect()
 }
 
 fn crates() -> BTreeSet<String> {
@@ -31,7 +33,7 @@ fn quoted(page: &str) -> Vec<Vec<String>> {
     page.lines().map(|line| line.split('`').skip(1).step_by(2).map(str::to_string).collect()).collect()
 }
 
-/// The words of a text: names of Rattle, and of its proofs, which may have - and ₛ in them.
+/// The words of a text: names of Rattle, and of its proofs, which may have -, _ and ₛ in them.
 fn words(text: &str) -> BTreeSet<&str> {
     let words = text.split(|c: char| !(c.is_alphanumeric() || "-_".contains(c)));
     words.filter(|word| !word.is_empty()).collect()
