@@ -9,18 +9,14 @@ use Rattle.spec.specs.Bytes.{memory_of, SetsUp}
 use Rattle.record.specs.declared.Head.{Head}
 use Rattle.record.specs.Inner.{whole, no_clients}
 use borrow.Author.Rules.{rules}
-use Rattle.starts.proofs.set_up_in.Statement.{statement}
-use Rattle.starts.proofs.set_up_in.Tie as tie
+use Rattle.starts.proofs.set_up_in.Goals as goal
 
 on_columns : (d c : List ℕ) (w l : ℕ) (h : Head) {k : Clients} {d' c' v : List ℕ} {a : Answer ℕ} → k ≡ no_clients
     → SetsUp d c w l (memory_of (whole h no_clients) d' c' v) a → SetsUp d c w l (memory_of (whole h k) d' c' v) a
 on_columns d c w l h e r = rw e r
 
-returns : tie.Need-returns
+pub returns : goal.returns
 unfolding no_versions
 returns c =
-    let made = c.before.before.before.before.made in
-    on_columns _ _ _ _ made.result.head c.before.before.before.before.before.before.before.before.zeroed.ensures made.ensures
-
-pub set-up-in-spec : {M : Type 1} → statement M
-set-up-in-spec = tie.close (tie.spec (λ c κs. search rules) (λ c κs. search rules) (λ c. search rules) (λ c. search rules) returns)
+    let made = c.made in
+    on_columns _ _ _ _ made.result.head c.zeroed.ensures made.ensures
