@@ -1,6 +1,7 @@
 // Orderly bytes (document 02, ticket 4): the tests that come before a trim from the newest, and the chains of rows
 // that are made on the way: the committed row of a tag, and the data rows of a committed row.
 #![tactic(auto)]
+
 ghost use Rattle.std.specs.Prelude.{◌≡◌, true, ℕ, ◌+◌, ◌*◌, ◌≤◌, ◌<◌, length, get_or, replicate};
 ghost use Rattle.spec.specs.Rows.{data_width, commit_width, commit_rows_in, row_at, rows_from, commit_tag};
 ghost use Rattle.spec.specs.Share.{wrote};

@@ -1,12 +1,6 @@
 -- The rows below i rise, each to the next.
-use Prim.Native.Nat.{ℕ, ◌+◌, ◌-◌, ◌≤◌, ◌<◌}
-use mathlib.Core.Path.{refl}
-use borrow.Author.Count.{below_more}
-use borrow.Author.Tests.{not-false}
-use native.Mathlib.Omega.{arith}
+use Prim.Native.Nat.{ℕ, ◌-◌, ◌≤◌, ◌<◌}
 use Rattle.orderly.specs.Inner.{Rises}
-use Rattle.orderly.proofs.Order.{differ}
-use borrow.Author.Rules.{rules}
 use Rattle.orderly.proofs.both_rise.Given as goal
 
 abbrev pub invariant-loop-i : goal.invariant-loop-i

@@ -1,11 +1,9 @@
 -- Before row i the rows of the place have their flags, and from it on no row has one; rows of other places are passed over.
-use Prim.Native.Nat.{ℕ, ◌-◌, ◌≤◌, ◌<◌}
+use Prim.Native.Nat.{◌≤◌, ◌<◌}
 use lib.ListN.{get_or}
 use native.Mathlib.Omega.{arith}
-use Rattle.orderly.specs.Inner.{Chain, Walk}
 use Rattle.orderly.proofs.Chains.{chain-rises, chain_more}
-use Rattle.orderly.proofs.Flagged.{Flagged, flagged_start, flagged_more, flagged_end}
-use borrow.Author.Rules.{rules}
+use Rattle.orderly.proofs.Flagged.{flagged_start, flagged_more, flagged_end}
 use Rattle.orderly.proofs.chain_flags.Goals as goal
 
 pub loop-i-init : goal.loop-i-init

@@ -1,14 +1,9 @@
 -- No row from `from` on and before row i has the tag: the rows of the chain that were met have another, and rows of other places too.
 use Prim.Native.Nat.{ℕ, ◌-◌, ◌≤◌, ◌<◌}
-use mathlib.Core.Path.{◌≡◌, sym, ap, ◌∙◌}
-use borrow.Author.Rules.{rules}
-use native.Mathlib.Omega.{arith}
-use lib.ListN.{get_or}
+use mathlib.Core.Path.{◌≡◌}
 use Rattle.spec.specs.Rows.{row_at, commit_tag}
-use Rattle.search.proofs.Passes.{miss_more}
 use Rattle.places.specs.Inner.{place}
 use Rattle.orderly.specs.Inner.{tag_place, Chain}
-use Rattle.orderly.proofs.Chains.{chain_more, chain-rises, chain_carry}
 use Rattle.orderly.proofs.chained_entry.Given as goal
 
 abbrev pub invariant-loop-i : goal.invariant-loop-i

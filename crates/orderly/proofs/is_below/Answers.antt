@@ -3,7 +3,6 @@ use mathlib.Core.Path.{refl, sym, ◌∙◌}
 use borrow.Author.Tests.{eqb-true}
 use native.Mathlib.Omega.{arith}
 use Rattle.orderly.proofs.Order.{differ}
-use borrow.Author.Rules.{rules}
 use Rattle.orderly.proofs.is_below.Goals as goal
 
 pub returns-then-at-eq0 : goal.returns-then-at-eq0

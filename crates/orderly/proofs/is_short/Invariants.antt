@@ -1,6 +1,5 @@
 -- Nothing is to be shown but that it ends.
 use Prim.Native.Nat.{◌≤◌}
-use borrow.Author.Rules.{rules}
 use Rattle.orderly.proofs.is_short.Given as goal
 
 abbrev pub invariant-loop-i : goal.invariant-loop-i

@@ -1,5 +1,4 @@
 -- One row more is linked.
-use borrow.Author.Rules.{rules}
 use Rattle.orderly.proofs.Chains.{linked_more}
 use Rattle.orderly.proofs.link.Goals as goal
 

@@ -3,9 +3,8 @@ use Prim.Native.Nat.{ℕ, ◌+◌, ◌-◌, ◌≤◌, ◌<◌}
 use mathlib.Core.Path.{◌≡◌, sym, ap, ◌∙◌}
 use native.Mathlib.Omega.{arith}
 use Rattle.spec.specs.Rows.{rows_in}
-use Rattle.orderly.specs.Inner.{entry_of, row_entry, entry_places, Linked}
+use Rattle.orderly.specs.Inner.{entry_of, row_entry, entry_places}
 use Rattle.orderly.proofs.Entries.{entry_next}
-use borrow.Author.Rules.{rules}
 use Rattle.orderly.proofs.link_rows.Goals as goal
 
 pub loop-i-init : goal.loop-i-init

@@ -1,11 +1,8 @@
 -- The rows from i on are linked by their committed rows, and `at` is the committed row of the tag `last`.
-use Prim.Native.Nat.{ℕ, ◌+◌, ◌-◌, ◌≤◌, ◌<◌}
-use mathlib.Core.Path.{◌≡◌, sym, ap, ◌∙◌}
-use native.Mathlib.Omega.{arith}
+use Prim.Native.Nat.{◌≤◌}
+use mathlib.Core.Path.{◌≡◌}
 use Rattle.spec.specs.Rows.{rows_in}
 use Rattle.orderly.specs.Inner.{entry_of, row_entry, entry_places, Linked}
-use Rattle.orderly.proofs.Entries.{entry_next}
-use borrow.Author.Rules.{rules}
 use Rattle.orderly.proofs.link_rows.Given as goal
 
 abbrev pub invariant-loop-i : goal.invariant-loop-i

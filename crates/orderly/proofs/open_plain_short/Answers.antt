@@ -1,11 +1,8 @@
 -- Before row i the rows of the place are plain; the rest of the chain meets every later row of its tag and cell.
-use Prim.Native.Nat.{ℕ, ◌-◌}
-use borrow.Author.Rules.{rules}
 use native.Mathlib.Omega.{arith}
 use lib.ListN.{get_or}
-use Rattle.orderly.specs.Inner.{TagWalk}
 use Rattle.orderly.proofs.Single.{RowWalk, row_twice, row_sole, open_passes, open_fails, open_large}
-use Rattle.orderly.proofs.Short.{Walked, walked_start, walked_more, walked_row}
+use Rattle.orderly.proofs.Short.{walked_start, walked_more, walked_row}
 use Rattle.orderly.proofs.open_plain_short.Goals as goal
 
 pub loop-i-init : goal.loop-i-init

@@ -1,16 +1,9 @@
 -- Whether the rows from `from` on have a write of the cell is whether those from i on have one: the walk passes over rows of other places only.
-use Prim.Native.Nat.{◌-◌, ◌≤◌, ◌<◌}
-use mathlib.Core.Path.{◌≡◌, refl, sym, ◌∙◌}
-use mathlib.Core.Logic.{⊎_elim}
-use borrow.Author.Rules.{rules}
-use native.Mathlib.Omega.{arith}
-use lib.ListN.{get_or}
-use Rattle.spec.specs.Rows.{row_at, rows_from, tag_of, cell_of}
+use Prim.Native.Nat.{◌-◌}
+use mathlib.Core.Path.{◌≡◌}
+use Rattle.spec.specs.Rows.{rows_from}
 use Rattle.spec.specs.Share.{wrote}
-use Rattle.search.proofs.Folds.{wrote_end}
 use Rattle.orderly.specs.Inner.{PairWalk}
-use Rattle.orderly.proofs.Chains.{chain_next, chain_more, chain-rises}
-use Rattle.orderly.proofs.Walks.{own_miss, own_here, pair_skip}
 use Rattle.orderly.proofs.own_chained.Given as goal
 
 abbrev pub invariant-loop-i : goal.invariant-loop-i

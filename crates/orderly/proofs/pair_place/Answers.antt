@@ -1,6 +1,5 @@
 -- As it is defined.
 use mathlib.Core.Path.{refl}
-use borrow.Author.Rules.{rules}
 use native.Mathlib.Omega.{arith}
 use Rattle.orderly.specs.Inner.{pair_place}
 use Rattle.orderly.proofs.pair_place.Goals as goal

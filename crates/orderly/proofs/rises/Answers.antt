@@ -3,7 +3,6 @@ use mathlib.Core.Path.{refl}
 use borrow.Author.Tests.{ltb-true}
 use native.Mathlib.Omega.{arith}
 use Rattle.orderly.proofs.Order.{differ}
-use borrow.Author.Rules.{rules}
 use Rattle.orderly.proofs.rises.Goals as goal
 
 pub returns-then-commit_number_at : goal.returns-then-commit_number_at
