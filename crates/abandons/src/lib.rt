@@ -1,5 +1,6 @@
 // Abandon: the transaction's data rows and queue rows go in one step.
 #![tactic(auto)]
+
 ghost use Rattle.spec.specs.Answers.{figure_of};
 ghost use Rattle.spec.specs.Calls.{abandon};
 ghost use Rattle.record.specs.Inner.{columns, PerformsOn, shared};

@@ -1,5 +1,6 @@
 // Advance: a match on the stage, 0 to 13, each arm one small step function.
 #![tactic(auto)]
+
 ghost use Rattle.std.specs.Prelude.{true, ◌≡◌, ◌<◌, length};
 ghost use Rattle.spec.specs.Set.{clients};
 ghost use Rattle.spec.specs.Answers.{advance_of};

@@ -1,5 +1,6 @@
 // Begin: the next number, and the last commit number as the snapshot.
 #![tactic(auto)]
+
 ghost use Rattle.std.specs.Prelude.{◌≡◌};
 ghost use Rattle.spec.specs.Answers.{begin_of};
 ghost use Rattle.spec.specs.Calls.{begin};

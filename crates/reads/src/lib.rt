@@ -1,5 +1,6 @@
 // Read and the sixteen bytes that it finds, and Free.
 #![tactic(auto)]
+
 ghost use Rattle.std.specs.Prelude.{◌≡◌, List, ℕ, ◌<◌, length, get_or};
 ghost use Rattle.spec.specs.Answers.{figure_of, read_of};
 ghost use Rattle.spec.specs.Calls.{free, read};

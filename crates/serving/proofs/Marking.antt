@@ -230,9 +230,9 @@ module _ (low n m : ℕ) (s c : List ℕ) where
             each i l (no q) = rw (tag_no own (row_at 24 i s) q, tag_miss (tag_of (row_at 24 i s)) m j c h (λ e. q (sym e))) (f.each i l)
 
         -- the committed row is in use just if a row of its transaction lasts
-        in_use : in_use (trimmed_rows low (rows_in 24 n s) (rows_in 8 m c)) (row_at 8 j c) ≡ any (lasting own (j + 1) marks₀) (rows_in 24 n s)
+        in_use_lem : in_use (trimmed_rows low (rows_in 24 n s) (rows_in 8 m c)) (row_at 8 j c) ≡ any (lasting own (j + 1) marks₀) (rows_in 24 n s)
         unfolding in_use trimmed_rows
-        in_use =
+        in_use_lem =
             any-filter (has_tag own) (stays low (rows_in 24 n s) (rows_in 8 m c)) (rows_in 24 n s)
             ∙ any_same (λ r. if stays low (rows_in 24 n s) (rows_in 8 m c) r then has_tag own r else false) (lasting own (j + 1) marks₀) 24 n s
             (λ k l. same k l (ℕ_discrete (tag_of (row_at 24 k s)) own))
@@ -253,7 +253,7 @@ module _ (low n m : ℕ) (s c : List ℕ) where
           where
             each : (k : ℕ) → j ≤ k → k < m → Dec (k ≡ j) → get_or uses k 0 ≡
                 (if in_use (trimmed_rows low (rows_in 24 n s) (rows_in 8 m c)) (row_at 8 k c) then 1 else 0)
-            each k a b (yes z) = rw (z, in_use) (here ∙ rw (u.before j (omega arith)))
+            each k a b (yes z) = rw (z, in_use_lem) (here ∙ rw (u.before j (omega arith)))
             each k a b (no z) = others k z ∙ u.each k (omega (arith, a, z)) b
 
       module _ (ordered : orderly_commits (rows_in 8 m c) ≡ true) (seen₀ flags₀ uses₀ : List ℕ) (d : SoFar n m s c (j + 1) seen₀)

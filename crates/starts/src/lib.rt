@@ -1,5 +1,6 @@
 // Set-up: what it is given is tested, both buffers are cleared, a record and a version table are made.
 #![tactic(auto)]
+
 ghost use Rattle.spec.specs.Answers.{figure_of};
 ghost use Rattle.spec.specs.Image.{no_versions};
 ghost use Rattle.spec.specs.Bytes.{memory_of, SetsUp};

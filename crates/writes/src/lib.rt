@@ -1,5 +1,6 @@
 // Write: a row added, or a value replaced where the transaction has a row for the cell.
 #![tactic(auto)]
+
 ghost use Rattle.std.specs.Prelude.{List, ℕ};
 ghost use Rattle.spec.specs.Answers.{figure_of};
 ghost use Rattle.spec.specs.Calls.{write};

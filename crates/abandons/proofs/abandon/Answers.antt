@@ -29,8 +29,7 @@ pub returns-then-number-k-eq0 : goal.returns-then-number-k-eq0
 unfolding abandon decode
 returns-then-number-k-eq0 c =
     let a = c.args in
-    λ v. rw c.no_figure-then-number-k-eq0.ensures (refuses _ _ _ _ _ _ (sym (c.fit.ensures _ _ _ _ _ _) ∙ not-false
-    _ c.if-not-fit.false)
+    λ v. rw c.no_figure-then-number-k-eq0.ensures (refuses _ _ _ _ _ _ (sym (c.fit.ensures _ _ _ _ _ _) ∙ c.if-not-fit.false)
     (rw (lt-leb clients a.client (omega arith), eq-eqb (get_or a.number.now a.client 0) 0 (omega arith))))
 
 pub returns-then-stage-k-ge12 : goal.returns-then-stage-k-ge12

@@ -26,8 +26,7 @@ pub returns-then-number-k-eq0 : goal.returns-then-number-k-eq0
 unfolding advance decode
 returns-then-number-k-eq0 c =
     let a = c.args in
-    λ v. rw c.refuse-then-number-k-eq0.ensures (refuses _ _ _ _ _ _ (sym (c.fit.ensures _ _ _ _ _ _) ∙ not-false _
-    c.if-not-fit.false)
+    λ v. rw c.refuse-then-number-k-eq0.ensures (refuses _ _ _ _ _ _ (sym (c.fit.ensures _ _ _ _ _ _) ∙ c.if-not-fit.false)
     (rw (lt-leb clients a.client (omega arith), eq-eqb (get_or a.number.now a.client 0) 0 (omega arith))))
 
 pub step-requires : goal.step-requires

@@ -18,18 +18,25 @@ pub enter-requires : goal.enter-requires
 enter-requires c = let f = fit_of _ _ _ c.requires.commits_value in (record { client_lt_clients = omega arith; used_in_bounds = omega arith })
 
 pub list_requests-requires : goal.list_requests-requires
-list_requests-requires c = let f = fit_of _ _ _ c.requires.commits_value in (record { client_lt_clients = omega
-      arith; used_in_bounds = omega arith })
+list_requests-requires c = let f = fit_of _ _ _ c.requires.commits_value in (record {
+  client_lt_clients = omega
+      arith;
+  used_in_bounds = omega arith;
+})
 
 pub check-requires : goal.check-requires
 check-requires c = let f = fit_of _ _ _ c.requires.commits_value in (record { client_lt_clients = omega arith; used_in_bounds = omega arith; used_bound = omega arith; entries_in_bounds = omega arith })
 
 pub add_commit-requires : goal.add_commit-requires
-add_commit-requires c = let f = fit_of _ _ _ c.requires.commits_value in (record { client_lt_clients = omega
-      arith; rows_in_bounds = omega arith; rows_bound = omega arith })
+add_commit-requires c = let f = fit_of _ _ _ c.requires.commits_value in (record {
+  client_lt_clients = omega
+      arith;
+  rows_in_bounds = omega arith;
+  rows_bound = omega arith;
+})
 
 pub returns-in-0 : goal.returns-in-0
-returns-in-0 c = λ v. rw c.in-0.keys1 (c.enter.ensures _ v)
+returns-in-0 c = λ v. rw c.in-0.is (c.enter.ensures _ v)
 
 pub returns-in-1 : goal.returns-in-1
 returns-in-1 c = λ v. rw c.in-1.is (c.take_request.ensures _ _ _ _ _ _ _ v)
@@ -38,13 +45,13 @@ pub returns-in-2 : goal.returns-in-2
 returns-in-2 c = λ v. rw c.in-2.is (c.note_request.ensures _ _ _ _ _ _ _ _ v)
 
 pub returns-in-3 : goal.returns-in-3
-returns-in-3 c = λ v. rw c.in-0.keys4 (c.list_requests.ensures _ _ _ _ _ v)
+returns-in-3 c = λ v. rw c.in-3.is (c.list_requests.ensures _ _ _ _ _ v)
 
 pub returns-in-4 : goal.returns-in-4
-returns-in-4 c = λ v. rw c.in-0.keys5 (c.look_requests.ensures _ _ _ _ _ _ v)
+returns-in-4 c = λ v. rw c.in-4.is (c.look_requests.ensures _ _ _ _ _ _ v)
 
 pub returns-in-5 : goal.returns-in-5
-returns-in-5 c = λ v. rw c.in-0.keys6 (c.check.ensures v)
+returns-in-5 c = λ v. rw c.in-5.is (c.check.ensures v)
 
 pub returns-in-6 : goal.returns-in-6
 returns-in-6 c = λ v. rw c.in-6.is (c.enter_commits.ensures _ _ _ _ _ _ _ _ v)
@@ -59,10 +66,10 @@ pub returns-in-9 : goal.returns-in-9
 returns-in-9 c = λ v. rw c.in-9.is (c.list_commits.ensures _ _ _ _ _ _ _ v)
 
 pub returns-in-10 : goal.returns-in-10
-returns-in-10 c = λ v. rw c.in-0.keys11 (c.look_commits.ensures _ _ _ _ _ _ v)
+returns-in-10 c = λ v. rw c.in-10.is (c.look_commits.ensures _ _ _ _ _ _ v)
 
 pub returns-in-11 : goal.returns-in-11
-returns-in-11 c = λ v. rw c.in-0.keys12 (c.add_commit.ensures
+returns-in-11 c = λ v. rw c.in-11.is (c.add_commit.ensures
     _ _ _ _ _ v)
 
 pub returns-in-12 : goal.returns-in-12
@@ -74,11 +81,5 @@ returns-in-13 c = λ v. rw c.in-13.is (c.leave_requests.ensures _ _ v)
 pub returns-in_default : goal.returns-in_default
 returns-in_default c =
     let a = c.args in
-    let r = c.in_default.rest in
-    let h : 14 ≤ get_or a.stage.now a.client 0 =
-    above (above (above (above (above (above (above (above (above
-    (above (above (above (above (above zero-le r.0.0.0.0.0.0.0.0.0.0.0.0.0.1)
-    r.0.0.0.0.0.0.0.0.0.0.0.0.1) r.0.0.0.0.0.0.0.0.0.0.0.1) r.0.0.0.0.0.0.0.0.0.0.1)
-    r.0.0.0.0.0.0.0.0.0.1) r.0.0.0.0.0.0.0.0.1) r.0.0.0.0.0.0.0.1) r.0.0.0.0.0.0.1)
-    r.0.0.0.0.0.1) r.0.0.0.0.1) r.0.0.0.1) r.0.0.1) r.0.1) r.1 in
+    let h : 14 ≤ get_or a.stage.now a.client 0 = omega arith in
     λ v. rw (c.refuse.ensures, get_or-eq_default steps no_step {n = get_or a.stage.now a.client 0} h) (image-stays _ _ _ _ _ _ refl)

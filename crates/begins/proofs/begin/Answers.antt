@@ -26,8 +26,7 @@ pub returns-then-number-k-ne0 : goal.returns-then-number-k-ne0
 unfolding begin decode
 returns-then-number-k-ne0 c =
     let a = c.args in
-    λ v. rw c.no_begin-then-number-k-ne0.ensures (refuses _ _ _ _ _ _ (sym (c.fit.ensures _ _ _ _ _ _) ∙ not-false
-    _ c.if-not-fit.false)
+    λ v. rw c.no_begin-then-number-k-ne0.ensures (refuses _ _ _ _ _ _ (sym (c.fit.ensures _ _ _ _ _ _) ∙ c.if-not-fit.false)
     (rw (lt-leb clients a.client (omega arith), ne_eqb (get_or a.number.now a.client 0) 0 c.if-number-k-ne0.true)))
 
 pub returns-then-h-eq-TOP : goal.returns-then-h-eq-TOP
@@ -41,11 +40,6 @@ returns-then-h-eq-TOP c =
       eq-eqb (get_or a.number.now a.client 0) 0 (omega arith),
       eq-eqb a.h.issued 4294967295 (omega arith),
     )))
-
-pub offset_bounds-commit-k : goal.offset_bounds-commit-k
-offset_bounds-commit-k c =
-    search
-    rules
 
 pub returns : goal.returns
 unfolding begin begun decode

@@ -4,11 +4,6 @@ use Rattle.spec.specs.Image.{closed}
 use borrow.Author.Rules.{rules}
 use Rattle.record.proofs.close.Goals as goal
 
-pub offset_bounds-request-k : goal.offset_bounds-request-k
-offset_bounds-request-k c =
-    search
-    rules
-
 pub returns : goal.returns
 unfolding closed
 returns c = rw (c.clear_all-2.ensures, c.clear_all.ensures)

@@ -19,8 +19,7 @@ overflow_cast-n c = let a = accepted _ _ _ _ (sym c.acceptable.ensures ∙ c.if-
 
 pub overflow_sub-first : goal.overflow_sub-first
 overflow_sub-first c = let a = accepted _ _ _ _
-    (sym c.acceptable.ensures ∙ not-false _
-    c.if-not-acceptable.false) in omega (arith, a.first)
+    (sym c.acceptable.ensures ∙ c.if-not-acceptable.false) in omega (arith, a.first)
 
 pub returns : goal.returns
 unfolding set_up

@@ -3,11 +3,6 @@
 use borrow.Author.Rules.{rules}
 use Rattle.telling.proofs.read_told.Goals as goal
 
-pub enum_known-answer-in-Refused-1 : goal.enum_known-answer-in-Refused-1
-enum_known-answer-in-Refused-1 c =
-    search
-    rules
-
 pub returns-in-Value : goal.returns-in-Value
 returns-in-Value c = rw (c.in-Answered.is, c.in-Value.is)
 

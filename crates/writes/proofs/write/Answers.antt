@@ -21,21 +21,14 @@ use Rattle.search.proofs.Folds.{cells_fewer}
 use Rattle.writes.proofs.write.Goals as goal
 
 pub returns-then-not-fit : goal.returns-then-not-fit
-returns-then-not-fit c = λ s q m b w v. rw c.no_figure.ensures (ends-unfit _ _ _ _ _ (sym (c.fit.ensures _ _ _ _ _ _) ∙ not-true _
-    c.if-not-fit.true))
+returns-then-not-fit c = λ s q m b w v. rw c.no_figure.ensures (ends-unfit _ _ _ _ _ (sym (c.fit.ensures _ _ _ _ _ _) ∙ c.if-not-fit.true))
 
 pub returns-then-client-ge-LIMIT : goal.returns-then-client-ge-LIMIT
 unfolding write
 returns-then-client-ge-LIMIT c =
     let a = c.args in
-    λ s q m b w v. rw c.no_figure-then-client-ge-LIMIT.ensures (refuses _ _ _ _ _ _ (sym (c.fit.ensures _ _ _ _ _ _) ∙ not-false _
-    c.if-not-fit.false)
+    λ s q m b w v. rw c.no_figure-then-client-ge-LIMIT.ensures (refuses _ _ _ _ _ _ (sym (c.fit.ensures _ _ _ _ _ _) ∙ c.if-not-fit.false)
     (rw (le-leb clients a.client (omega arith))))
-
-pub no_figure-requires-then-cell-ge-CELLS : goal.no_figure-requires-then-cell-ge-CELLS
-no_figure-requires-then-cell-ge-CELLS c =
-    search
-    rules
 
 pub returns-then-cell-ge-CELLS : goal.returns-then-cell-ge-CELLS
 unfolding write
@@ -99,8 +92,15 @@ new_row-requires c =
     let a = c.args in
     let f : Found = find (is_own (get_or a.number.now a.client 0) a.cell) 0 (rows_in 24 a.h.used a.rows.now) in
     let missing = own_rows f _ _ _ c.own_row-own.ensures c.in-Rows.is in
-    let fit = fit_of _ _ _ (sym (c.fit.ensures [] [] [] [] [] []) ∙ c.if-not-fit.false) in (record { rows_in_bounds = omega arith; used_le_rows = fit.data_rows; client_lt_clients = omega arith; cell_bound = omega arith; value_len = omega arith; rows_value = lt-leb a.h.limit (cells_of (get_or a.number.now a.client 0) (rows_in 24 a.h.used a.rows.now))
-                  (omega (arith, cells_fewer (get_or a.number.now a.client 0) (rows_in 24 a.h.used a.rows.now), missing.1)) })
+    let fit = fit_of _ _ _ (sym (c.fit.ensures [] [] [] [] [] []) ∙ c.if-not-fit.false) in (record {
+      rows_in_bounds = omega arith;
+      used_le_rows = fit.data_rows;
+      client_lt_clients = omega arith;
+      cell_bound = omega arith;
+      value_len = omega arith;
+      rows_value = lt-leb a.h.limit (cells_of (get_or a.number.now a.client 0) (rows_in 24 a.h.used a.rows.now))
+          (omega (arith, cells_fewer (get_or a.number.now a.client 0) (rows_in 24 a.h.used a.rows.now), missing.1));
+    })
 
 pub returns-then-n-h : goal.returns-then-n-h
 returns-then-n-h c =
