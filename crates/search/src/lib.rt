@@ -1,5 +1,6 @@
 // Searches over the rows of both buffers.
 #![tactic(auto)]
+
 ghost use Rattle.std.specs.Prelude.{◌≡◌, true, ◌&&◌, ◌+◌, ◌*◌, ◌≤◌, ◌<◌, eqb, ltb, length, set, replicate};
 ghost use Rattle.spec.specs.Set.{clients, member, insert};
 ghost use Rattle.std.specs.Prelude.{if◌then◌else◌};

@@ -1,5 +1,6 @@
 // Waiting lists: who is put on one, whom a look strikes, and a client that leaves all of them.
 #![tactic(auto)]
+
 ghost use Rattle.std.specs.Prelude.{◌≡◌, not, ◌&&◌, eqb, get_or};
 ghost use Rattle.spec.specs.Set.{clients, collect, strike};
 ghost use Rattle.spec.specs.Image.{cleared};

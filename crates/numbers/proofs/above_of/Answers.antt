@@ -1,6 +1,5 @@
 -- `numbers::above_of` goes by the cases of its definition.
 use native.Mathlib.Omega.{arith}
-use borrow.Author.Rules.{rules}
 use borrow.Author.Tests.{lt-ltb, le-ltb}
 use Rattle.spec.specs.Numbers.{above}
 use Rattle.numbers.proofs.above_of.Goals as goal

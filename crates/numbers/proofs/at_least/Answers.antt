@@ -1,6 +1,5 @@
 -- `numbers::at_least` goes by the cases of its definition.
 use native.Mathlib.Omega.{arith}
-use borrow.Author.Rules.{rules}
 use borrow.Author.Tests.{lt-ltb, le-ltb}
 use Rattle.spec.specs.Numbers.{at_least}
 use Rattle.numbers.proofs.at_least.Goals as goal

@@ -1,5 +1,4 @@
 -- `numbers::lesser_of` goes by the cases of its definition.
-use borrow.Author.Rules.{rules}
 use Rattle.spec.specs.Numbers.{lesser}
 use Rattle.numbers.proofs.lesser_of.Goals as goal
 

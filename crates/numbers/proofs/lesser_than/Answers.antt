@@ -1,6 +1,5 @@
 -- `numbers::lesser_than` goes by the cases of its definition.
 use native.Mathlib.Omega.{arith}
-use borrow.Author.Rules.{rules}
 use borrow.Author.Tests.{lt-ltb, le-ltb}
 use Rattle.spec.specs.Numbers.{lesser}
 use Rattle.numbers.proofs.lesser_than.Goals as goal

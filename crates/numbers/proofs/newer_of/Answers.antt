@@ -1,5 +1,4 @@
 -- `numbers::newer_of` goes by the cases of its definition.
-use borrow.Author.Rules.{rules}
 use Rattle.spec.specs.Look.{newer, version_at}
 use Rattle.numbers.proofs.newer_of.Goals as goal
 

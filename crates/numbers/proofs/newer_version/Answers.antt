@@ -1,6 +1,5 @@
 -- `numbers::newer_version` goes by the cases of its definition.
 use native.Mathlib.Omega.{arith}
-use borrow.Author.Rules.{rules}
 use borrow.Author.Tests.{lt-ltb, le-ltb}
 use Rattle.spec.specs.Look.{newer}
 use Rattle.numbers.proofs.newer_version.Goals as goal

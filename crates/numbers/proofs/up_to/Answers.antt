@@ -1,6 +1,5 @@
 -- `numbers::up_to` goes by the cases of its definition.
 use native.Mathlib.Omega.{arith}
-use borrow.Author.Rules.{rules}
 use borrow.Author.Tests.{le-leb, lt-leb}
 use Rattle.spec.specs.Numbers.{up_to}
 use Rattle.numbers.proofs.up_to.Goals as goal

@@ -1,10 +1,8 @@
 -- The digits of n are those of the rest before the bytes from the place on. Assumes nothing.
-use borrow.Author.Rules.{rules}
 use Prim.Native.Nat.{◌≤◌}
-use mathlib.Core.Path.{◌≡◌, ◌∙◌, refl, sym}
+use mathlib.Core.Path.{◌∙◌, refl, sym}
 use native.Mathlib.Omega.{arith}
-use lib.ListN.{length, drop, length-set}
-use Rattle.spec.specs.Text.{decimal_on, decimal_of}
+use lib.ListN.{length, length-set}
 use Rattle.printing.proofs.Texts.{decimal_start, decimal_more, decimal_last, decimal_end}
 use Rattle.printing.proofs.digits_of.Goals as goal
 

@@ -1,11 +1,8 @@
 -- The digits of n are those of the rest before the bytes from the place on. Assumes nothing.
-use borrow.Author.Rules.{rules}
 use Prim.Native.Nat.{◌≤◌}
-use mathlib.Core.Path.{◌≡◌, ◌∙◌, refl, sym}
-use native.Mathlib.Omega.{arith}
-use lib.ListN.{length, drop, length-set}
+use mathlib.Core.Path.{◌≡◌}
+use lib.ListN.{length, drop}
 use Rattle.spec.specs.Text.{decimal_on, decimal_of}
-use Rattle.printing.proofs.Texts.{decimal_start, decimal_more, decimal_last, decimal_end}
 use Rattle.printing.proofs.digits_of.Given as goal
 
 abbrev pub invariant-loop-from : goal.invariant-loop-from

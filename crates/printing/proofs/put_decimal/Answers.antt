@@ -1,5 +1,4 @@
 -- Three digits or four are those of the hundreds, and two more. Assumes nothing.
-use borrow.Author.Rules.{rules}
 use native.Mathlib.Omega.{arith}
 use Rattle.printing.proofs.Texts.{put_then, decimal_four}
 use Rattle.printing.proofs.put_decimal.Goals as goal

@@ -1,11 +1,8 @@
 -- The text up to o with the digits of the bytes from i on is the whole text. Assumes nothing.
-use borrow.Author.Rules.{rules}
-use Prim.Native.Nat.{◌+◌, ◌-◌, ◌≤◌, ◌<◌}
-use mathlib.Core.Path.{◌≡◌, refl}
-use mathlib.Core.List.{◌++◌}
+use Prim.Native.Nat.{◌+◌, ◌<◌}
+use mathlib.Core.Path.{refl}
 use native.Mathlib.Omega.{arith}
-use lib.ListN.{length, take, drop, length-set}
-use Rattle.spec.specs.Text.{hex_text}
+use lib.ListN.{length, length-set}
 use Rattle.printing.proofs.Texts.{hex_put, hex_all, hex_length}
 use Rattle.printing.proofs.put_hex.Goals as goal
 

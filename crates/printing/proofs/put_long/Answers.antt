@@ -1,5 +1,4 @@
 -- The part that is lent is the digits. Assumes nothing.
-use borrow.Author.Rules.{rules}
 use native.Mathlib.Omega.{arith}
 use Rattle.printing.proofs.Texts.{spelled_part, spelled_length}
 use Rattle.printing.proofs.put_long.Goals as goal

@@ -4,7 +4,6 @@ use Rattle.spec.proofs.Bytes.{length-commit_row, lent_tail}
 use Rattle.spec.specs.Rows.{commit_row}
 use native.Mathlib.Omega.{arith}
 use Prim.Native.Nat.{◌*◌}
-use borrow.Author.Rules.{rules}
 use Rattle.rows.proofs.append_commit.Goals as goal
 
 pub returns : goal.returns

@@ -4,7 +4,6 @@ use Prim.Native.Nat.{◌*◌}
 use native.Mathlib.Omega.{arith}
 use Rattle.spec.proofs.Bytes.{lent_tail, length-data_row}
 use Rattle.spec.specs.Rows.{data_row}
-use borrow.Author.Rules.{rules}
 use Rattle.rows.proofs.append_row.Goals as goal
 
 pub returns : goal.returns

@@ -2,7 +2,6 @@ use mathlib.Core.Path.{◌∙◌}
 use lib.Dec.{lit≤}
 use Rattle.spec.specs.Rows.{commit_number}
 use Rattle.spec.proofs.Rows.{field_first}
-use borrow.Author.Rules.{rules}
 use Rattle.rows.proofs.commit_number_at.Goals as goal
 
 pub returns : goal.returns

@@ -2,7 +2,6 @@ use mathlib.Core.Path.{◌∙◌}
 use lib.Dec.{lit≤}
 use Rattle.spec.specs.Rows.{commit_tag}
 use Rattle.spec.proofs.Rows.{field}
-use borrow.Author.Rules.{rules}
 use Rattle.rows.proofs.commit_tag_at.Goals as goal
 
 pub returns : goal.returns

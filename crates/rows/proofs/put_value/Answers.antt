@@ -3,7 +3,6 @@
 use mathlib.Core.Path.{◌∙◌}
 use native.Mathlib.Omega.{arith}
 use Rattle.rows.proofs.Words.{value_stored}
-use borrow.Author.Rules.{rules}
 use Rattle.rows.proofs.put_value.Goals as goal
 
 pub returns : goal.returns

@@ -2,7 +2,6 @@ use mathlib.Core.Path.{sym, ◌∙◌}
 use native.Mathlib.Omega.{arith}
 use Rattle.spec.specs.Rows.{with_value}
 use Rattle.spec.proofs.Laid.{laid_set}
-use borrow.Author.Rules.{rules}
 use Rattle.rows.proofs.replace_value.Goals as goal
 
 pub returns : goal.returns

@@ -3,7 +3,6 @@ use mathlib.Core.Path.{◌∙◌}
 use lib.Dec.{lit≤}
 use Rattle.spec.specs.Rows.{cell_of}
 use Rattle.spec.proofs.Rows.{field}
-use borrow.Author.Rules.{rules}
 use Rattle.rows.proofs.short_cell_at.Goals as goal
 
 pub returns : goal.returns

@@ -2,7 +2,6 @@ use mathlib.Core.Path.{◌∙◌}
 use lib.Dec.{lit≤}
 use Rattle.spec.specs.Rows.{tag_of}
 use Rattle.spec.proofs.Rows.{field_first}
-use borrow.Author.Rules.{rules}
 use Rattle.rows.proofs.tag_at.Goals as goal
 
 pub returns : goal.returns

@@ -1,4 +1,3 @@
-use borrow.Author.Rules.{rules}
 use native.Mathlib.Omega.{arith}
 use Rattle.spec.proofs.Bytes.{number_two}
 use Rattle.rows.proofs.u16_at.Goals as goal

@@ -1,4 +1,3 @@
-use borrow.Author.Rules.{rules}
 use native.Mathlib.Omega.{arith}
 use Rattle.spec.proofs.Bytes.{number_four}
 use Rattle.rows.proofs.u32_at.Goals as goal

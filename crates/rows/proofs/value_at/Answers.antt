@@ -1,6 +1,5 @@
 use Rattle.spec.proofs.Rows.{value_part}
 use native.Mathlib.Nat.{add-sub_cancel_left}
-use borrow.Author.Rules.{rules}
 use Rattle.rows.proofs.value_at.Goals as goal
 
 pub returns : goal.returns

@@ -1,7 +1,6 @@
 -- Eight reads.
 use native.Mathlib.Omega.{arith}
 use Rattle.rows.proofs.Words.{word_read}
-use borrow.Author.Rules.{rules}
 use Rattle.rows.proofs.word_at.Goals as goal
 
 pub returns : goal.returns

@@ -1,5 +1,4 @@
 use Rattle.spec.proofs.Bytes.{commit_written}
-use borrow.Author.Rules.{rules}
 use Rattle.rows.proofs.write_commit.Goals as goal
 
 pub returns : goal.returns

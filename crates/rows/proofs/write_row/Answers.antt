@@ -1,6 +1,5 @@
 use native.Mathlib.Omega.{arith}
 use Rattle.spec.proofs.Bytes.{row_written}
-use borrow.Author.Rules.{rules}
 use Rattle.rows.proofs.write_row.Goals as goal
 
 pub returns : goal.returns

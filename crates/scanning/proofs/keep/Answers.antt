@@ -1,10 +1,9 @@
 -- The bytes moved so far are the first of those between the places.
 -- Assumes nothing.
-use Prim.Native.Nat.{◌+◌, ◌-◌, ◌≤◌, ◌<◌}
+use Prim.Native.Nat.{◌+◌, ◌≤◌, ◌<◌}
 use mathlib.Core.Path.{◌≡◌, refl}
 use native.Mathlib.Omega.{arith}
-use borrow.Author.Rules.{rules}
-use lib.ListN.{length, take, drop, length-set}
+use lib.ListN.{length, length-set}
 use Rattle.scanning.proofs.MovedBytes.{move_more, move_rest, move_full, move_all}
 use Rattle.scanning.proofs.keep.Goals as goal
 

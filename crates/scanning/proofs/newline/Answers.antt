@@ -1,10 +1,7 @@
 -- The search goes on from the place behind the eights, and from each byte that is no newline. Assumes nothing.
 use borrow.Author.Rules.{rules}
-use Prim.Native.Nat.{◌-◌, ◌≤◌}
 use mathlib.Core.Path.{◌∙◌, sym}
 use native.Mathlib.Omega.{arith}
-use lib.ListN.{length}
-use Rattle.scanning.specs.Inner.{NoNewline}
 use Rattle.scanning.proofs.Newlines.{newline_end, newline_found, newline_more}
 use Rattle.scanning.proofs.newline.Goals as goal
 

@@ -1,11 +1,7 @@
 -- While none was found, the search comes as far as the loop. Assumes nothing.
-use borrow.Author.Rules.{rules}
-use Prim.Native.Nat.{ℕ, ◌+◌, ◌-◌, ◌≤◌}
+use Prim.Native.Nat.{ℕ, ◌+◌}
 use mathlib.Core.Path.{◌≡◌, ◌∙◌}
-use mathlib.Core.Bool.{true}
-use mathlib.Core.Logic.{⊎_elim}
 use native.Mathlib.Omega.{arith}
-use Rattle.scanning.specs.Inner.{NoNewline}
 use Rattle.scanning.proofs.Newlines.{newline_more}
 use Rattle.scanning.proofs.none_in_eight.Goals.{else-s-at-eq10, then-s-at-eq10}
 use Rattle.scanning.proofs.none_in_eight.Goals as goal

@@ -1,11 +1,7 @@
 -- The search goes on from each eight that has no newline. Assumes nothing.
 use borrow.Author.Rules.{rules}
-use Prim.Native.Nat.{◌-◌, ◌≤◌}
 use mathlib.Core.Path.{◌∙◌, refl}
 use native.Mathlib.Omega.{arith}
-use borrow.Author.Tests.{not-false}
-use lib.ListN.{length}
-use Rattle.scanning.specs.Inner.{NoNewline}
 use Rattle.scanning.proofs.pass_eights.Goals as goal
 
 pub loop-i-init : goal.loop-i-init

@@ -1,13 +1,9 @@
 -- `search::conflict`: the smallest of all rows is the lesser of the smallest so far and that of the rest; rows of cells that the transaction cannot
 -- have written are passed over; nothing where no commit is above the snapshot.
-use Prim.Native.Nat.{◌<◌, ◌-◌}
-use mathlib.Core.Path.{◌≡◌, sym, ◌∙◌}
-use mathlib.Core.Logic.{⊎_elim}
+use Prim.Native.Nat.{◌<◌}
+use mathlib.Core.Path.{sym, ◌∙◌}
 use native.Mathlib.Omega.{arith}
-use borrow.Author.Rules.{rules}
-use borrow.Author.Tests.{not-true}
 use Rattle.spec.specs.Rows.{row_at, rows_in, cell_of}
-use Rattle.spec.specs.Share.{conflict}
 use Rattle.spec.specs.declared.Number.TheVariants.{None}
 use Rattle.search.proofs.Passes.{skip}
 use Rattle.search.proofs.Marks.{row_unmarked}
@@ -41,10 +37,13 @@ loop-i-preserved c =
     let best = c.if-has_written.best in
     let h : loop.i < a.used = omega arith in
     loop.invariant
-    ∙ elim c.if-has_written.branch [ then-has_written w ↦ clash-hit a.tag a.snapshot a.used a.rows.now cs loop.best loop.i h
-    (rw (← c.cell_at.ensures, ← c.has_written.ensures) w.if-has_written.true) best
-    (w.best-is ∙ w.lesser_of-best.ensures ∙ rw (w.above_of.ensures, w.commit_of-number.ensures, w.tag_at.ensures)) | else-has_written w ↦ rw w.best-is (clash-miss a.tag a.snapshot a.used a.rows.now cs loop.best loop.i h
-    (rw (← c.cell_at.ensures, ← c.has_written.ensures) w.if-has_written.false)) ]
+    ∙ elim c.if-has_written.branch [
+      | then-has_written w ↦ clash-hit a.tag a.snapshot a.used a.rows.now cs loop.best loop.i h
+          (rw (← c.cell_at.ensures, ← c.has_written.ensures) w.if-has_written.true) best
+          (w.best-is ∙ w.lesser_of-best.ensures ∙ rw (w.above_of.ensures, w.commit_of-number.ensures, w.tag_at.ensures))
+      | else-has_written w ↦ rw w.best-is (clash-miss a.tag a.snapshot a.used a.rows.now cs loop.best loop.i h
+          (rw (← c.cell_at.ensures, ← c.has_written.ensures) w.if-has_written.false))
+    ]
     ∙ skip (clash_rest a.tag a.snapshot a.used a.rows.now cs best) c.next_marked-i-in-loop-i.ensures
     (λ k l m. clash-miss a.tag a.snapshot a.used a.rows.now cs best k l
     (row_unmarked c.mark_cells.ensures (cell_of (row_at 24 k a.rows.now)) m))

@@ -1,17 +1,10 @@
 -- `search::conflict`: the smallest of all rows is the lesser of the smallest so far and that of the rest; rows of cells that the transaction cannot
 -- have written are passed over; nothing where no commit is above the snapshot.
-use Prim.Native.Nat.{◌<◌, ◌-◌}
-use mathlib.Core.Path.{◌≡◌, sym, ◌∙◌}
-use mathlib.Core.Logic.{⊎_elim}
-use native.Mathlib.Omega.{arith}
-use borrow.Author.Rules.{rules}
-use borrow.Author.Tests.{not-true}
-use Rattle.spec.specs.Rows.{row_at, rows_in, cell_of}
+use Prim.Native.Nat.{◌-◌}
+use mathlib.Core.Path.{◌≡◌}
+use Rattle.spec.specs.Rows.{rows_in}
 use Rattle.spec.specs.Share.{conflict}
-use Rattle.spec.specs.declared.Number.TheVariants.{None}
-use Rattle.search.proofs.Passes.{skip}
-use Rattle.search.proofs.Marks.{row_unmarked}
-use Rattle.search.proofs.Clashes.{conflict-none, clash_rest, clash_start, clash-hit, clash-miss, clash-end}
+use Rattle.search.proofs.Clashes.{clash_rest}
 use Rattle.search.proofs.conflict.Given as goal
 
 abbrev pub invariant-loop-i : goal.invariant-loop-i

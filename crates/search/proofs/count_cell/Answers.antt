@@ -1,5 +1,4 @@
 -- `search::count_cell`: by the mark of a cell below 1,024, by the later rows above.
-use borrow.Author.Rules.{rules}
 use borrow.Author.Tests.{eq-eqb, ne_eqb}
 use Rattle.search.proofs.Marks.{by_mark, mark-low, mark-high}
 use Rattle.search.proofs.count_cell.Goals as goal
@@ -18,10 +17,16 @@ returns-then-cell-lt1024 c =
 
 pub returns-then-wrote_from : goal.returns-then-wrote_from
 returns-then-wrote_from c =
-    let a = c.args in (record { written_marks_2 = mark-high a.tag a.used a.k a.rows.now c.requires.k_lt_used c.requires.written_marks c.requires.rows_value c.cell_at-cell.result
-          c.cell_at-cell.ensures c.if-cell-lt1024.false; value = rw (← c.cell_at-cell.ensures, ← c.wrote_from.ensures, c.if-wrote_from.true) })
+    let a = c.args in (record {
+      written_marks_2 = mark-high a.tag a.used a.k a.rows.now c.requires.k_lt_used c.requires.written_marks c.requires.rows_value c.cell_at-cell.result
+          c.cell_at-cell.ensures c.if-cell-lt1024.false;
+      value = rw (← c.cell_at-cell.ensures, ← c.wrote_from.ensures, c.if-wrote_from.true);
+    })
 
 pub returns-else-wrote_from : goal.returns-else-wrote_from
 returns-else-wrote_from c =
-    let a = c.args in (record { written_marks_2 = mark-high a.tag a.used a.k a.rows.now c.requires.k_lt_used c.requires.written_marks c.requires.rows_value c.cell_at-cell.result
-          c.cell_at-cell.ensures c.if-cell-lt1024.false; value = rw (← c.cell_at-cell.ensures, ← c.wrote_from.ensures, c.if-wrote_from.false) })
+    let a = c.args in (record {
+      written_marks_2 = mark-high a.tag a.used a.k a.rows.now c.requires.k_lt_used c.requires.written_marks c.requires.rows_value c.cell_at-cell.result
+          c.cell_at-cell.ensures c.if-cell-lt1024.false;
+      value = rw (← c.cell_at-cell.ensures, ← c.wrote_from.ensures, c.if-wrote_from.false);
+    })

@@ -1,16 +1,9 @@
 -- `search::count_cells`: the cells counted, and marked, are those of the rows that it has come by, from the last to the first.
-use Prim.Native.Nat.{ℕ, ◌≤◌, ◌<◌, ◌-◌, ◌+◌}
-use mathlib.Core.Path.{◌≡◌, refl, sym, ap, ◌∙◌}
-use native.Mathlib.Omega.{arith}
-use lib.ListN.{replicate}
-use borrow.Author.Rules.{rules}
+use Prim.Native.Nat.{◌≤◌, ◌<◌, ◌-◌, ◌+◌}
+use mathlib.Core.Path.{◌≡◌}
 use Rattle.spec.specs.Rows.{row_at, rows_from, tag_of}
-use Rattle.spec.proofs.Rows.{rows_start}
 use Rattle.spec.specs.Share.{cells_of}
 use Rattle.search.specs.Inner.{WrittenMarks}
-use Rattle.search.proofs.Passes.{carry_back}
-use Rattle.search.proofs.Folds.{last_one, cells_hit, cells_miss, cells_end}
-use Rattle.search.proofs.Marks.{marks_none, marks_back}
 use Rattle.search.proofs.count_cells.Given as goal
 
 abbrev pub invariant-loop-i : goal.invariant-loop-i

@@ -1,7 +1,6 @@
 -- `search::has_written`: by the mark of a cell below 1,024, by the rows above.
 use mathlib.Core.Path.{◌∙◌}
 use native.Mathlib.Omega.{arith}
-use borrow.Author.Rules.{rules}
 use Rattle.spec.proofs.Rows.{rows_start}
 use Rattle.search.proofs.Marks.{by_mark}
 use Rattle.search.proofs.has_written.Goals as goal

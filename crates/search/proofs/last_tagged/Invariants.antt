@@ -1,9 +1,8 @@
 -- `search::last_tagged`: no row from row i on is a hit, thirty-two a turn from the end, then eight, then one by one.
 use Prim.Native.Nat.{◌-◌, ◌≤◌}
-use mathlib.Core.Path.{◌≡◌, refl, sym, ◌∙◌}
-use native.Mathlib.Omega.{arith}
+use mathlib.Core.Path.{◌≡◌}
 use Rattle.spec.specs.Rows.{row_at, tag_of}
-use Rattle.search.proofs.Passes.{Past, past_none, past-miss, past-joined, last_none, last_found}
+use Rattle.search.proofs.Passes.{Past}
 use Rattle.search.proofs.last_tagged.Given as goal
 
 abbrev pub invariant-loop-j : goal.invariant-loop-j

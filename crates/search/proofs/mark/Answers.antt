@@ -1,5 +1,4 @@
 -- `search::mark` stores at a cell below 1,024.
-use borrow.Author.Rules.{rules}
 use borrow.Author.Tests.{lt-ltb, le-ltb}
 use Rattle.search.proofs.mark.Goals as goal
 

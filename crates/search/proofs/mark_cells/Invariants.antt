@@ -1,12 +1,8 @@
 -- `search::mark_cells`: the marks are those of the rows that it has come by, from the last to the first.
-use Prim.Native.Nat.{◌+◌, ◌-◌, ◌≤◌, ◌<◌}
+use Prim.Native.Nat.{◌-◌, ◌≤◌, ◌<◌}
 use mathlib.Core.Path.{◌≡◌}
-use native.Mathlib.Omega.{arith}
-use borrow.Author.Rules.{rules}
 use Rattle.spec.specs.Rows.{row_at, rows_from, tag_of}
-use Rattle.spec.proofs.Rows.{rows_start}
 use Rattle.search.specs.Inner.{WrittenMarks}
-use Rattle.search.proofs.Marks.{marks_none, mark-hit, marks_back}
 use Rattle.search.proofs.mark_cells.Given as goal
 
 abbrev pub invariant-loop-i : goal.invariant-loop-i

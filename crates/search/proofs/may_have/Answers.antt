@@ -1,5 +1,4 @@
 -- `search::may_have`: by the mark of a cell below 1,024.
-use borrow.Author.Rules.{rules}
 use borrow.Author.Tests.{lt-ltb, le-ltb}
 use Rattle.search.proofs.may_have.Goals as goal
 

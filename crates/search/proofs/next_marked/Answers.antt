@@ -1,11 +1,8 @@
 -- `search::next_marked`: no row that it passed is a hit, eight a turn and then one by one.
-use Prim.Native.Nat.{◌+◌, ◌*◌, ◌≤◌, ◌-◌}
-use mathlib.Core.Path.{◌≡◌, sym, ◌∙◌}
-use mathlib.Core.Bool.{true, true≢false}
+use mathlib.Core.Path.{sym, ◌∙◌}
+use mathlib.Core.Bool.{true≢false}
 use native.Mathlib.Omega.{arith}
-use Rattle.spec.specs.Rows.{row_at, cell_of}
-use Rattle.search.specs.Inner.{may_have}
-use Rattle.search.proofs.Passes.{Past, past_none, past_same, past-miss, past-found}
+use Rattle.search.proofs.Passes.{past_none, past_same, past-miss, past-found}
 use Rattle.search.proofs.next_marked.Goals as goal
 
 pub loop-t-init : goal.loop-t-init
@@ -18,12 +15,11 @@ pub returns-then-may_have : goal.returns-then-may_have
 returns-then-may_have c = past-found c.loop-j.invariant.1 (omega arith) (sym c.may_have.ensures ∙ c.if-may_have.true)
 
 pub loop-j-preserved : goal.loop-j-preserved
-loop-j-preserved c =
-    (
-      omega arith,
-      past-miss c.loop-j.invariant.1 (omega arith)
-          (λ e. true≢false (sym (c.may_have.ensures ∙ e) ∙ c.if-may_have.false)),
-    )
+loop-j-preserved c = (
+  omega arith,
+  past-miss c.loop-j.invariant.1 (omega arith)
+      (λ e. true≢false (sym (c.may_have.ensures ∙ e) ∙ c.if-may_have.false)),
+)
 
 pub loop-t-preserved : goal.loop-t-preserved
 loop-t-preserved c = (omega arith, past_same c.loop-j.invariant.1 (omega arith))
@@ -35,12 +31,11 @@ pub returns-then-may_have-2 : goal.returns-then-may_have-2
 returns-then-may_have-2 c = past-found c.loop-i.invariant.1 (omega arith) (sym c.may_have-in-loop-i.ensures ∙ c.if-may_have-2.true)
 
 pub loop-i-preserved : goal.loop-i-preserved
-loop-i-preserved c =
-    (
-      omega arith,
-      past-miss c.loop-i.invariant.1 (omega arith)
-          (λ e. true≢false (sym (c.may_have-in-loop-i.ensures ∙ e) ∙ c.if-may_have-2.false)),
-    )
+loop-i-preserved c = (
+  omega arith,
+  past-miss c.loop-i.invariant.1 (omega arith)
+      (λ e. true≢false (sym (c.may_have-in-loop-i.ensures ∙ e) ∙ c.if-may_have-2.false)),
+)
 
 pub returns : goal.returns
 returns c = past_same c.loop-i.invariant.1 (omega arith)

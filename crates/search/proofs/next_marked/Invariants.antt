@@ -1,11 +1,10 @@
 -- `search::next_marked`: no row that it passed is a hit, eight a turn and then one by one.
 use Prim.Native.Nat.{◌+◌, ◌*◌, ◌≤◌, ◌-◌}
-use mathlib.Core.Path.{◌≡◌, sym, ◌∙◌}
-use mathlib.Core.Bool.{true, true≢false}
-use native.Mathlib.Omega.{arith}
+use mathlib.Core.Path.{◌≡◌}
+use mathlib.Core.Bool.{true}
 use Rattle.spec.specs.Rows.{row_at, cell_of}
 use Rattle.search.specs.Inner.{may_have}
-use Rattle.search.proofs.Passes.{Past, past_none, past_same, past-miss, past-found}
+use Rattle.search.proofs.Passes.{Past}
 use Rattle.search.proofs.next_marked.Given as goal
 
 abbrev pub invariant-loop-j : goal.invariant-loop-j

@@ -1,9 +1,7 @@
 -- `search::next_tag`: no row that it passed is a hit, eight a turn and then one by one.
-use Prim.Native.Nat.{◌+◌, ◌*◌, ◌≤◌, ◌-◌}
-use mathlib.Core.Path.{◌≡◌, sym, ◌∙◌}
+use mathlib.Core.Path.{sym, ◌∙◌}
 use native.Mathlib.Omega.{arith}
-use Rattle.spec.specs.Rows.{row_at, tag_of}
-use Rattle.search.proofs.Passes.{Past, past_none, past_same, past-miss, past-found}
+use Rattle.search.proofs.Passes.{past_none, past_same, past-miss, past-found}
 use Rattle.search.proofs.next_tag.Goals as goal
 
 pub loop-t-init : goal.loop-t-init

@@ -1,9 +1,8 @@
 -- `search::next_tag`: no row that it passed is a hit, eight a turn and then one by one.
 use Prim.Native.Nat.{◌+◌, ◌*◌, ◌≤◌, ◌-◌}
-use mathlib.Core.Path.{◌≡◌, sym, ◌∙◌}
-use native.Mathlib.Omega.{arith}
+use mathlib.Core.Path.{◌≡◌}
 use Rattle.spec.specs.Rows.{row_at, tag_of}
-use Rattle.search.proofs.Passes.{Past, past_none, past_same, past-miss, past-found}
+use Rattle.search.proofs.Passes.{Past}
 use Rattle.search.proofs.next_tag.Given as goal
 
 abbrev pub invariant-loop-j : goal.invariant-loop-j

@@ -1,12 +1,7 @@
 -- `search::own_row`: what is asked of all rows is what is asked of the rest, with the rows counted so far.
-use Prim.Native.Nat.{◌≤◌, ◌<◌, ◌-◌, ◌+◌}
-use mathlib.Core.Path.{◌≡◌, sym, ◌∙◌}
+use Prim.Native.Nat.{◌<◌, ◌+◌}
+use mathlib.Core.Path.{sym, ◌∙◌}
 use native.Mathlib.Omega.{arith}
-use borrow.Author.Rules.{rules}
-use Rattle.spec.specs.Rows.{row_at, rows_in, tag_of, has_tag}
-use Rattle.spec.specs.Look.{is_own, find}
-use Rattle.spec.specs.Share.{count}
-use Rattle.search.specs.Inner.{row_or_count}
 use Rattle.search.proofs.Passes.{skip}
 use Rattle.search.proofs.Rest.{own_rest, own_start, own-skip, own-found, own-other, own-end}
 use Rattle.search.proofs.own_row.Goals as goal

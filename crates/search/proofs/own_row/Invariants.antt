@@ -1,14 +1,11 @@
 -- `search::own_row`: what is asked of all rows is what is asked of the rest, with the rows counted so far.
-use Prim.Native.Nat.{◌≤◌, ◌<◌, ◌-◌, ◌+◌}
-use mathlib.Core.Path.{◌≡◌, sym, ◌∙◌}
-use native.Mathlib.Omega.{arith}
-use borrow.Author.Rules.{rules}
+use Prim.Native.Nat.{◌≤◌, ◌<◌, ◌-◌}
+use mathlib.Core.Path.{◌≡◌}
 use Rattle.spec.specs.Rows.{row_at, rows_in, tag_of, has_tag}
 use Rattle.spec.specs.Look.{is_own, find}
 use Rattle.spec.specs.Share.{count}
 use Rattle.search.specs.Inner.{row_or_count}
-use Rattle.search.proofs.Passes.{skip}
-use Rattle.search.proofs.Rest.{own_rest, own_start, own-skip, own-found, own-other, own-end}
+use Rattle.search.proofs.Rest.{own_rest}
 use Rattle.search.proofs.own_row.Given as goal
 
 abbrev pub invariant-loop-i : goal.invariant-loop-i

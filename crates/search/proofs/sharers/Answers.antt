@@ -1,9 +1,7 @@
 -- `search::sharers`: the members so far, and the queued clients that share a cell in the rest of the rows, are all that share one; rows of cells that
 -- the transaction cannot have written are passed over.
-use Prim.Native.Nat.{◌+◌, ◌<◌, ◌-◌, ◌^◌}
-use mathlib.Core.Logic.{⊎_elim}
+use Prim.Native.Nat.{◌+◌, ◌<◌, ◌^◌}
 use native.Mathlib.Omega.{arith}
-use borrow.Author.Rules.{rules}
 use Rattle.spec.specs.Set.{clients}
 use Rattle.spec.specs.Rows.{row_at, cell_of}
 use Rattle.search.proofs.Passes.{carry}
@@ -37,16 +35,19 @@ loop-i-preserved c =
     let loop = c.loop-i in
     let found = c.if-has_written.found in
     let h : loop.i < a.used = omega arith in
-    let next : (found < 2 ^ clients) × Shared a.tag a.queued a.used a.rows.now a.numbers.now found (loop.i + 1) = elim c.if-has_written.branch [ then-has_written w ↦ (
-      omega arith,
-      share-hit a.tag a.queued a.used a.rows.now a.numbers.now loop.found loop.i loop.invariant.1 h
-          (rw (← c.cell_at.ensures, ← c.has_written.ensures) w.if-has_written.true) found
-          (λ j. rw (w.found-is, ← w.tag_at.ensures) (w.with_writers-found.ensures j)),
-    ) | else-has_written w ↦ rw w.found-is (
-      loop.invariant.0,
-      share-miss a.tag a.queued a.used a.rows.now a.numbers.now loop.found loop.i loop.invariant.1 h
-          (rw (← c.cell_at.ensures, ← c.has_written.ensures) w.if-has_written.false),
-    ) ] in (
+    let next : (found < 2 ^ clients) × Shared a.tag a.queued a.used a.rows.now a.numbers.now found (loop.i + 1) = elim c.if-has_written.branch [
+      | then-has_written w ↦ (
+        omega arith,
+        share-hit a.tag a.queued a.used a.rows.now a.numbers.now loop.found loop.i loop.invariant.1 h
+            (rw (← c.cell_at.ensures, ← c.has_written.ensures) w.if-has_written.true) found
+            (λ j. rw (w.found-is, ← w.tag_at.ensures) (w.with_writers-found.ensures j)),
+      )
+      | else-has_written w ↦ rw w.found-is (
+        loop.invariant.0,
+        share-miss a.tag a.queued a.used a.rows.now a.numbers.now loop.found loop.i loop.invariant.1 h
+            (rw (← c.cell_at.ensures, ← c.has_written.ensures) w.if-has_written.false),
+      )
+    ] in (
       next.0,
       carry (Shared a.tag a.queued a.used a.rows.now a.numbers.now found) c.next_marked-i-in-loop-i.ensures
           (λ k l m s. share-miss a.tag a.queued a.used a.rows.now a.numbers.now found k s l

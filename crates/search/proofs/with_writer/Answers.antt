@@ -1,6 +1,5 @@
 -- `search::with_writer` goes by its two tests.
 use mathlib.Core.Bool.{and-false}
-use borrow.Author.Rules.{rules}
 use borrow.Author.Tests.{eq-eqb, ne_eqb}
 use Rattle.search.proofs.with_writer.Goals as goal
 

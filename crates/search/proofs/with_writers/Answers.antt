@@ -1,14 +1,10 @@
 -- `search::with_writers`: the members are those of the set, and those of the clients so far that are queued and have the number, eight a turn.
-use Prim.Native.Nat.{ℕ, ◌+◌, ◌*◌, ◌-◌, ◌/◌, ◌≤◌}
+use Prim.Native.Nat.{◌+◌, ◌*◌}
 use mathlib.Core.Path.{◌≡◌, ◌∙◌}
-use mathlib.Core.Bool.{Bool, ◌&&◌}
-use mathlib.Core.List.{List}
 use native.Mathlib.Omega.{arith}
 use lib.Dec.{eqb}
 use lib.ListN.{get_or}
-use borrow.Author.Rules.{rules}
-use Rattle.spec.specs.Set.{clients, member}
-use Rattle.search.proofs.Sharing.{JoinedBelow, joined_start, writers_more, writers_end}
+use Rattle.search.proofs.Sharing.{joined_start, writers_more, writers_end}
 use Rattle.search.proofs.with_writers.Invariants.{writes}
 use Rattle.search.proofs.with_writers.Goals as goal
 

@@ -1,13 +1,8 @@
 -- `search::wrote_from`: whether the rows from `from` on have a write of the cell is whether the rest has one; other transactions' rows are passed over.
 use Prim.Native.Nat.{◌≤◌, ◌<◌, ◌-◌}
-use mathlib.Core.Path.{◌≡◌, sym, ◌∙◌}
-use native.Mathlib.Omega.{arith}
-use borrow.Author.Rules.{rules}
-use borrow.Author.Tests.{eq-eqb, ne_eqb}
+use mathlib.Core.Path.{◌≡◌}
 use Rattle.spec.specs.Rows.{row_at, rows_from, tag_of}
 use Rattle.spec.specs.Share.{wrote}
-use Rattle.search.proofs.Passes.{skip}
-use Rattle.search.proofs.Folds.{wrote_hit, wrote_miss, wrote_end}
 use Rattle.search.proofs.wrote_from.Given as goal
 
 abbrev pub invariant-loop-i : goal.invariant-loop-i

@@ -1,5 +1,4 @@
 -- `sets::without`: digit k, as much as it counts for, is taken away. Assumes nothing.
-use borrow.Author.Rules.{rules}
 use mathlib.Core.Path.{sym}
 use native.Mathlib.Omega.{arith}
 use lib.Bits.{and_le_l}

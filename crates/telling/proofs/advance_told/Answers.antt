@@ -2,7 +2,6 @@
 -- Assumes nothing.
 use mathlib.Core.Path.{◌∙◌}
 use Rattle.telling.proofs.Progressing.{kind_and_number}
-use borrow.Author.Rules.{rules}
 use Rattle.telling.proofs.advance_told.Goals as goal
 
 pub returns-in-Answered : goal.returns-in-Answered

@@ -1,6 +1,5 @@
 -- `telling::begin_told`: each case of the answer.
 -- Assumes nothing.
-use borrow.Author.Rules.{rules}
 use Rattle.telling.proofs.begin_told.Goals as goal
 
 pub returns-in-Answered : goal.returns-in-Answered

@@ -1,6 +1,5 @@
 -- `telling::figure_told`: each case of the answer.
 -- Assumes nothing.
-use borrow.Author.Rules.{rules}
 use Rattle.telling.proofs.figure_told.Goals as goal
 
 pub returns-in-Answered : goal.returns-in-Answered

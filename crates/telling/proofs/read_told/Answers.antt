@@ -1,6 +1,5 @@
 -- `telling::read_told`: each case of the answer.
 -- Assumes nothing.
-use borrow.Author.Rules.{rules}
 use Rattle.telling.proofs.read_told.Goals as goal
 
 pub returns-in-Value : goal.returns-in-Value

@@ -1,6 +1,5 @@
 -- `telling::refused`: the number, and nothing else.
 -- Assumes nothing.
-use borrow.Author.Rules.{rules}
 use Rattle.telling.proofs.refused.Goals as goal
 
 pub returns : goal.returns

@@ -1,14 +1,9 @@
 -- `waiting::clear_all`: the bit is cleared in the lists passed.
 -- Assumes nothing.
-use mathlib.Core.Path.{◌≡◌, refl, ◌∙◌}
+use mathlib.Core.Path.{◌≡◌}
 use Prim.Native.Nat.{ℕ, ◌≤◌, ◌-◌}
-use native.Mathlib.Omega.{arith}
-use native.Mathlib.Numerals.{add-one}
-use borrow.Author.Rules.{rules}
-use lib.ListN.{length}
 use Rattle.spec.specs.Set.{clients, remove}
-use Rattle.spec.specs.Image.{cleared}
-use Rattle.waiting.proofs.Loops.{map_to, map_to_step, map_to_all}
+use Rattle.waiting.proofs.Loops.{map_to}
 use Rattle.waiting.proofs.clear_all.Given as goal
 
 abbrev pub invariant-loop-i : goal.invariant-loop-i

@@ -3,11 +3,8 @@
 use mathlib.Core.Path.{sym, ◌∙◌}
 use native.Mathlib.Omega.{arith}
 use borrow.Author.Rules.{rules}
-use lib.ListN.{get_or}
-use lib.Count.{count_trailing_zeros}
 use Rattle.spec.specs.Set.{clients}
-use Rattle.spec.specs.Steps.{struck}
-use Rattle.waiting.proofs.Looking.{Found, lowest, remove-lt, Looked, looked_none, looked_struck, looked_stays, looked_all}
+use Rattle.waiting.proofs.Looking.{lowest, remove-lt, looked_none, looked_struck, looked_stays, looked_all}
 use Rattle.waiting.proofs.look.Goals as goal
 
 pub loop-rest-init : goal.loop-rest-init

@@ -1,13 +1,8 @@
 -- `waiting::look`: the clients of the list are looked at from the lowest on; what is left of the list is known client by client.
 -- Assumes nothing.
-use mathlib.Core.Path.{sym, ◌∙◌}
-use native.Mathlib.Omega.{arith}
-use borrow.Author.Rules.{rules}
 use lib.ListN.{get_or}
-use lib.Count.{count_trailing_zeros}
-use Rattle.spec.specs.Set.{clients}
 use Rattle.spec.specs.Steps.{struck}
-use Rattle.waiting.proofs.Looking.{Found, lowest, remove-lt, Looked, looked_none, looked_struck, looked_stays, looked_all}
+use Rattle.waiting.proofs.Looking.{Looked}
 use Rattle.waiting.proofs.look.Given as goal
 
 abbrev pub invariant-loop-rest : goal.invariant-loop-rest

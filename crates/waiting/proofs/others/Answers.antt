@@ -1,15 +1,12 @@
 -- `waiting::others`: the set so far is that of the clients passed that are in the queue; at the end the client itself is left out.
 -- Assumes nothing.
 use mathlib.Core.Path.{◌≡◌, refl, sym, ap, ◌∙◌}
-use mathlib.Core.Logic.{⊎_elim}
-use Prim.Native.Nat.{ℕ, ◌≤◌, ◌-◌}
+use Prim.Native.Nat.{ℕ}
 use native.Mathlib.Omega.{arith}
 use native.Mathlib.Numerals.{add-one}
 use borrow.Author.Rules.{rules}
-use lib.ListN.{get_or}
 use Rattle.spec.specs.Set.{clients, insert, remove, collect}
 use Rattle.spec.proofs.Sets.{collect_others}
-use Rattle.spec.specs.Steps.{queued}
 use Rattle.waiting.proofs.others.Goals.{else-in_queue, then-in_queue}
 use Rattle.waiting.proofs.others.Goals as goal
 

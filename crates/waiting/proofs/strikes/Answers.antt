@@ -1,8 +1,7 @@
 -- `waiting::strikes`: three tests, in the definition's order.
 -- Assumes nothing.
 use native.Mathlib.Omega.{arith}
-use borrow.Author.Rules.{rules}
-use borrow.Author.Tests.{lt-ltb, le-ltb, not-true, not-false}
+use borrow.Author.Tests.{lt-ltb, le-ltb}
 use Rattle.spec.specs.Steps.{struck}
 use Rattle.waiting.proofs.strikes.Goals as goal
 
