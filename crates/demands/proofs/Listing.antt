@@ -38,7 +38,7 @@ use Rattle.history.proofs.Model as m
 use Rattle.history.proofs.Model.{Client, State, Out, putₛ, same, clear_both, closedₛ, newcomer, rphase, begunₛ}
 use Rattle.history.proofs.Moves.{put_at, put_off, each, Tame, tame_same, tame_both}
 use Rattle.history.proofs.Plain.{Plain}
-use Rattle.history.proofs.View.{view, client_of, clients_as, number_at, stage_at}
+use Rattle.history.proofs.View.{view, client_of, clients_as, number_at_lem, stage_at}
 use Rattle.history.proofs.Walk.{empty-view}
 use Rattle.history.proofs.Bridge.{encoded, crossed, first_image, set_up_whole, unused, refused_memory, refused_call}
 use Rattle.history.proofs.AllCalls.{Reached, transition_of, good_next, same_memory, start_good}
@@ -348,7 +348,7 @@ module _ {q : WaitingLists} {o : Side} (kind : Kind q o) {bounds : Bounds} where
           by (makes e n) =
               let p = open_past_0 g k (omega (arith, n, kind.late)) in
               inr (first e (ap (λ (a : After Progress). a.answer) (crossed i g.fine (Advance k))
-              ∙ kind.answers i k ((g.inv.one k).below p) (omega (arith, p, number_at i k)) (ap suc (sym (stage_at i k)) ∙ n)) l)
+              ∙ kind.answers i k ((g.inv.one k).below p) (omega (arith, p, number_at_lem i k)) (ap suc (sym (stage_at i k)) ∙ n)) l)
 
   follow : (qs : List Call) {w : ℕ} {i : Image} {p : Plain} → Reached bounds w i p → Kept kind (view i).cl → (k j : ℕ)
       → OnList q (after_run qs (encoded i)).store k j → Followed q (encoded i) qs k j

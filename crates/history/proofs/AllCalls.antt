@@ -35,7 +35,7 @@ use Rattle.history.proofs.Transition.{Transition}
 use Rattle.history.proofs.Preserved.{good, never_2, Numbered, numbered_on, starts}
 use Rattle.history.proofs.Meets.{Under_state, under_kept, R_left, C_left, start_under}
 use Rattle.history.proofs.Room.{Room_state, room_stays, room_left, start_room}
-use Rattle.history.proofs.View.{view, number_at, stage_at, commit_at_lem, W_at, R_at, C_at, used_at, entries_at, free_at}
+use Rattle.history.proofs.View.{view, number_at_lem, stage_at, commit_at_lem, W_at, R_at, C_at, used_at, entries_at, free_at}
 use Rattle.history.proofs.Simulates.{observed_outcome}
 use Rattle.history.proofs.Versions.{Known, start_known, full_look_lem, entries_known}
 use Rattle.history.proofs.Advancing.{Ready}
@@ -59,8 +59,8 @@ module _ {bounds : Bounds} {w : ℕ} {i : Image} {p : Plain} (g : Reached bounds
   own_number : (k : ℕ) → number_of i k < 4294967296
   own_number k =
       by_cases (ℕ_discrete ((view i).cl k).number 0)
-      (λ e. omega (arith, e, number_at i k))
-      (λ n. omega (arith, number_at i k, (g.inv.tab.mine k (omega (arith, n))).num_le, within))
+      (λ e. omega (arith, e, number_at_lem i k))
+      (λ n. omega (arith, number_at_lem i k, (g.inv.tab.mine k (omega (arith, n))).num_le, within))
 
   -- no commit number is above C, and C is not above W
   own_commit : (k : ℕ) → stage_of i k ≡ 11 → commit_number_of i k < 4294967296

@@ -15,7 +15,7 @@ use Rattle.spec.specs.Run.{Call, Result}
 use Rattle.spec.specs.Table.{Observed, observe_answer}
 use Rattle.history.proofs.Model.{Out, out}
 use Rattle.history.proofs.Transition.{Transition}
-use Rattle.history.proofs.View.{view, number_at, stage_at}
+use Rattle.history.proofs.View.{view, number_at_lem, stage_at}
 
 -- an outcome as the model sees it
 abbrev pub observed_outcome : (q : Call) → Outcome (Result q) → Out (Answer (Observed q))
@@ -37,10 +37,10 @@ simulates_if i q false f g = g refl
 
 module _ (i : Image) (k : ℕ) where
   pub shut : is_open i k ≡ false → ((view i).cl k).number ≡ 0
-  shut e = number_at i k ∙ eqb-true (number_of i k) 0 (not-false (eqb (number_of i k) 0) e)
+  shut e = number_at_lem i k ∙ eqb-true (number_of i k) 0 (not-false (eqb (number_of i k) 0) e)
 
   pub same_open : not (eqb ((view i).cl k).number 0) ≡ is_open i k
-  same_open = ap (λ (n : ℕ). not (eqb n 0)) (number_at i k)
+  same_open = ap (λ (n : ℕ). not (eqb n 0)) (number_at_lem i k)
 
   pub not_open_lem : not (is_open i k) ≡ true → ((view i).cl k).number ≡ 0
   not_open_lem e = shut (not-true (is_open i k) e)
@@ -48,7 +48,7 @@ module _ (i : Image) (k : ℕ) where
   pub open_number : not (is_open i k) ≡ false → 1 ≤ ((view i).cl k).number
   open_number e =
       let n : number_of i k ≡ 0 → ⊥ = eqb-false (number_of i k) 0 (not-true (eqb (number_of i k) 0) (not-false (is_open i k) e)) in
-      omega (arith, n, number_at i k)
+      omega (arith, n, number_at_lem i k)
 
   pub at_first : not (eqb (stage_of i k) 0) ≡ false → ((view i).cl k).stage ≡ 0
   at_first e = stage_at i k ∙ eqb-true (stage_of i k) 0 (not-false (eqb (stage_of i k) 0) e)

@@ -27,7 +27,7 @@ use Rattle.history.proofs.Wellformed.{Wellformed}
 use Rattle.history.proofs.Model as m
 use Rattle.history.proofs.Model.{out, passed?, bare?, num_of}
 use Rattle.history.proofs.Transition.{trims}
-use Rattle.history.proofs.View.{data_row_of, commit_row_of, view, number_at, snapshot_at, last_at, size_at, used_at}
+use Rattle.history.proofs.View.{data_row_of, commit_row_of, view, number_at_lem, snapshot_at, last_at, size_at, used_at}
 use Rattle.history.proofs.Searches.{says, says-and, says_eq, says_lt, says_le, says_yes, says_no, any_view, drop_view, tag_view}
 use Rattle.history.proofs.Searches.{as_number, commit_view}
 use Rattle.history.proofs.Simulates.{observed_outcome, Simulates, simulates}
@@ -48,8 +48,8 @@ module _ (i : Image) where
   readers-view zero = refl
   readers-view (suc n) =
       by_cases (ℕ_discrete (number_of i n) 0)
-      (λ e. rw (eq-eqb (number_of i n) 0 e) (if_neg (dec_le 1 ((view i).cl n).number) (λ p. omega (arith, p, e, number_at i n)) _ _ ∙ readers-view n))
-      (λ d. rw (ne_eqb (number_of i n) 0 d) (if_pos (dec_le 1 ((view i).cl n).number) (omega (arith, d, number_at i n)) _ _
+      (λ e. rw (eq-eqb (number_of i n) 0 e) (if_neg (dec_le 1 ((view i).cl n).number) (λ p. omega (arith, p, e, number_at_lem i n)) _ _ ∙ readers-view n))
+      (λ d. rw (ne_eqb (number_of i n) 0 d) (if_pos (dec_le 1 ((view i).cl n).number) (omega (arith, d, number_at_lem i n)) _ _
       ∙ rw (snapshot_at i n, readers-view n) (lesser_view (snapshot_of i n) (smallest (readers i n)))))
 
   or_view : (l : Number) → m.default (view i).last (as_number l) ≡ or_number l i.counters.last

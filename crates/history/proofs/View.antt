@@ -86,9 +86,9 @@ view i = record {
 -- ---- what the view says of an image
 
 module _ (i : Image) where
-  pub number_at : (k : ℕ) → ((view i).cl k).number ≡ number_of i k
+  pub number_at_lem : (k : ℕ) → ((view i).cl k).number ≡ number_of i k
   unfolding view clients_as client_of
-  number_at k = refl
+  number_at_lem k = refl
 
   pub stage_at : (k : ℕ) → ((view i).cl k).stage ≡ stage_of i k
   unfolding view clients_as client_of
@@ -140,7 +140,7 @@ module _ (i : Image) where
 
   -- no client past the arrays' end is open
   pub past_number : Tidy i.clients → (k : ℕ) → clients ≤ k → ((view i).cl k).number ≡ 0
-  past_number z k h = number_at k ∙ get_or-eq_default i.clients.number 0 (omega (arith, z.number.size))
+  past_number z k h = number_at_lem k ∙ get_or-eq_default i.clients.number 0 (omega (arith, z.number.size))
 
 -- ---- rows of a list
 

@@ -1,6 +1,7 @@
 // The store's record and the answers of its calls. What the calls do is defined in specs/.
 // How many clients there are.
 #![tactic(auto)]
+
 pub const CLIENTS: usize = 64;
 
 // The same, as the number that a client is compared with.
