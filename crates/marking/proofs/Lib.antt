@@ -1,1 +1,1 @@
-pub mod kept_rows
+pub mod KeptRows

@@ -2,6 +2,7 @@
 // marking the cells that are served; all others the old way, by trimming::trim. The rows that go are removed by
 // removal::close_up.
 #![tactic(auto)]
+
 ghost use Rattle.std.specs.Prelude.{◌≡◌, true, ◌*◌, ◌≤◌, length, replicate};
 ghost use Rattle.spec.specs.Rows.{data_width, commit_width, data_rows_in, commit_rows_in};
 ghost use Rattle.trimming.specs.Inner.{Trimmed};

@@ -1,6 +1,7 @@
 // Committed rows gone through from the last to the first, marking the cells that are served (document 02, ticket 4):
 // see crate spec, specs/Marked.antt.
 #![tactic(auto)]
+
 ghost use Rattle.std.specs.Prelude.{◌≡◌, true, false, ◌+◌, ◌*◌, ◌≤◌, ◌<◌, length};
 ghost use Rattle.spec.specs.Rows.{data_width, commit_width, data_rows_in, commit_rows_in};
 ghost use Rattle.spec.specs.Orderly.{orderly_commits, orderly_rows};

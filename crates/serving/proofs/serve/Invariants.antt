@@ -1,24 +1,12 @@
 -- The data rows of committed row j are walked over their chain; rows of other transactions are passed over.
-use Prim.Native.Nat.{ℕ, ◌+◌, ◌-◌, ◌≤◌, ◌<◌}
-use mathlib.Core.Path.{◌≡◌, refl, sym}
-use mathlib.Core.Logic.{⊎_elim}
-use mathlib.Core.Bool.{Bool, true, false}
+use Prim.Native.Nat.{ℕ, ◌+◌, ◌-◌}
 use mathlib.Core.List.{List}
-use lib.ListN.{length, get_or, set}
 use lib.Dec.{leb}
-use borrow.Author.Tests.{le-leb, lt-leb}
-use native.Mathlib.Omega.{arith}
-use Rattle.spec.specs.Rows.{row_at, rows_in, tag_of, cell_of, commit_tag, commit_number}
-use Rattle.orderly.specs.Inner.{row_entry, entry_places, Chain}
-use Rattle.spec.specs.Orderly.{orderly_commits, orderly_rows}
-use Rattle.orderly.proofs.Chains.{chain-start, chain_more, chain-rises, chain_carry, head_carry}
-use Rattle.orderly.proofs.Order.{differ, displain, plain_large}
-use Rattle.orderly.proofs.Entries.{entry_tag, entry_of_tag}
-use Rattle.serving.proofs.Stamps.{Stamped, stamped_start, stamped-other, stamped-more, stamped-twice}
-use Rattle.serving.proofs.Stamps.{Paired, paired_start, paired-stamp, paired-mark, later_mark}
-use Rattle.serving.proofs.Serving.{Serving, serving_start, serving-other, serving-served, serving-mark, serving-idle}
-use Rattle.serving.proofs.Marking.{unmarked, marks-done, plain_done, judged-done, used-done}
-use borrow.Author.Rules.{rules}
+use Rattle.spec.specs.Rows.{row_at, commit_tag, commit_number}
+use Rattle.orderly.specs.Inner.{row_entry, Chain}
+use Rattle.serving.proofs.Stamps.{Stamped}
+use Rattle.serving.proofs.Stamps.{Paired}
+use Rattle.serving.proofs.Serving.{Serving}
 use Rattle.serving.proofs.serve.Given as goal
 
 -- the rows before i are done

@@ -1,7 +1,6 @@
 -- After committed row j the marks, the flags and what else is known are right.
-use Prim.Native.Nat.{◌+◌, ◌-◌, ◌≤◌}
+use Prim.Native.Nat.{◌+◌, ◌-◌}
 use mathlib.Core.Path.{◌≡◌, refl}
-use borrow.Author.Rules.{rules}
 use native.Mathlib.Omega.{arith}
 use Rattle.spec.specs.Marked.{Marks}
 use Rattle.serving.specs.Inner.{SoFar, Judged, Used}

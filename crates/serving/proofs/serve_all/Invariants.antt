@@ -1,11 +1,7 @@
 -- After committed row j the marks, the flags and what else is known are right.
-use Prim.Native.Nat.{◌+◌, ◌-◌, ◌≤◌}
-use mathlib.Core.Path.{◌≡◌, refl}
-use borrow.Author.Rules.{rules}
-use native.Mathlib.Omega.{arith}
+use Prim.Native.Nat.{◌≤◌}
 use Rattle.spec.specs.Marked.{Marks}
 use Rattle.serving.specs.Inner.{SoFar, Judged, Used}
-use Rattle.orderly.proofs.Order.{differ}
 use Rattle.serving.proofs.serve_all.Given as goal
 
 abbrev pub invariant-loop-j : goal.invariant-loop-j
