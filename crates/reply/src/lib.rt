@@ -1,5 +1,6 @@
 // Answer lines of the step program. Definitions: crate spec, specs/Text.antt and specs/Answers.antt.
 #![tactic(auto)]
+
 ghost use Rattle.std.specs.Prelude.{◌≡◌, [], ◌++◌, ◌+◌, ◌≤◌, length};
 ghost use Rattle.spec.specs.Answers.{code, figure_of, begin_of, read_of, advance_of};
 ghost use Rattle.spec.specs.Text.{str, numbered, head_text, line_text, answer_text, free_text, dropped_text, begun_text};

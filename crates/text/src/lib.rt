@@ -1,5 +1,6 @@
 // Text of the step program: a form from a line. Definitions: crate spec, specs/Text.antt.
 #![tactic(auto)]
+
 ghost use Rattle.std.specs.Prelude.{◌≡◌, true, ◌+◌, ◌≤◌, ◌<◌, length};
 ghost use Rattle.spec.specs.Text.{begins as Text·begins, stands as Text·stands, bracket_at, digit_val, decimal_at};
 ghost use Rattle.spec.specs.Text.{hex_val, hex_at, value_in, one_at, spaced_at, two_at};

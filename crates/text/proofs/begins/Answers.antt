@@ -1,10 +1,6 @@
 -- The answer from the start is the answer from i on. Assumes nothing.
-use borrow.Author.Rules.{rules}
-use Prim.Native.Nat.{◌≤◌, ◌-◌}
-use mathlib.Core.Path.{◌≡◌, ◌∙◌, refl, sym}
+use mathlib.Core.Path.{◌∙◌, refl, sym}
 use native.Mathlib.Omega.{arith}
-use lib.ListN.{length, drop}
-use Rattle.spec.specs.Text.{begins}
 use Rattle.text.proofs.Lines.{begins_short, begins_end, begins_more, begins_other}
 use Rattle.text.proofs.begins.Goals as goal
 

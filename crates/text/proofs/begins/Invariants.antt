@@ -1,11 +1,8 @@
 -- The answer from the start is the answer from i on. Assumes nothing.
-use borrow.Author.Rules.{rules}
 use Prim.Native.Nat.{◌≤◌, ◌-◌}
-use mathlib.Core.Path.{◌≡◌, ◌∙◌, refl, sym}
-use native.Mathlib.Omega.{arith}
+use mathlib.Core.Path.{◌≡◌}
 use lib.ListN.{length, drop}
 use Rattle.spec.specs.Text.{begins}
-use Rattle.text.proofs.Lines.{begins_short, begins_end, begins_more, begins_other}
 use Rattle.text.proofs.begins.Given as goal
 
 abbrev pub invariant-loop-i : goal.invariant-loop-i

@@ -1,10 +1,6 @@
 -- The number at the place is the number whose digits up to i have the value acc. Assumes nothing.
-use borrow.Author.Rules.{rules}
-use Prim.Native.Nat.{◌≤◌, ◌-◌}
-use mathlib.Core.Path.{◌≡◌, ◌∙◌, sym}
+use mathlib.Core.Path.{◌∙◌, sym}
 use native.Mathlib.Omega.{arith}
-use lib.ListN.{length, drop}
-use Rattle.spec.specs.Text.{decimal_at, digits_from}
 use Rattle.text.proofs.Lines.{decimal_none, decimal_other, decimal_first, digits_end, digits_stop, digits_zero, digits_large, digits_more}
 use Rattle.text.proofs.decimal.Goals as goal
 
@@ -36,14 +32,13 @@ returns-then-more c =
     c.if-acc-eq0.false c.if-more.true)
 
 pub loop-i-preserved : goal.loop-i-preserved
-loop-i-preserved c =
-    (
-      omega arith,
-      omega arith,
-      c.loop-i.invariant.2
-          ∙ digits_more _ _ _ c.digit_of-d.ensures c.loop-i-test.true _ c.if-d-ge10.false
-          c.if-acc-eq0.false c.if-more.false,
-    )
+loop-i-preserved c = (
+  omega arith,
+  omega arith,
+  c.loop-i.invariant.2
+      ∙ digits_more _ _ _ c.digit_of-d.ensures c.loop-i-test.true _ c.if-d-ge10.false
+      c.if-acc-eq0.false c.if-more.false,
+)
 
 pub returns : goal.returns
 returns c = sym (c.loop-i.invariant.2 ∙ digits_end _ _ _ c.loop-i-test.false)

@@ -1,11 +1,8 @@
 -- The number at the place is the number whose digits up to i have the value acc. Assumes nothing.
-use borrow.Author.Rules.{rules}
 use Prim.Native.Nat.{◌≤◌, ◌-◌}
-use mathlib.Core.Path.{◌≡◌, ◌∙◌, sym}
-use native.Mathlib.Omega.{arith}
+use mathlib.Core.Path.{◌≡◌}
 use lib.ListN.{length, drop}
 use Rattle.spec.specs.Text.{decimal_at, digits_from}
-use Rattle.text.proofs.Lines.{decimal_none, decimal_other, decimal_first, digits_end, digits_stop, digits_zero, digits_large, digits_more}
 use Rattle.text.proofs.decimal.Given as goal
 
 abbrev pub invariant-loop-i : goal.invariant-loop-i

@@ -1,5 +1,4 @@
 -- Each answer is the definition at the test that led to it. Assumes nothing.
-use borrow.Author.Rules.{rules}
 use mathlib.Core.Path.{sym}
 use native.Mathlib.Omega.{arith}
 use Rattle.text.proofs.Lines.{digit_near, digit_far}

@@ -1,12 +1,8 @@
 -- The digits passed by their largest value, and those still to come. Assumes nothing.
-use borrow.Author.Rules.{rules}
-use Prim.Native.Nat.{◌+◌, ◌-◌, ◌≤◌, ◌<◌}
-use mathlib.Core.Path.{◌≡◌, ◌∙◌, sym}
-use mathlib.Core.Logic.{⊎_elim}
-use native.Mathlib.Omega.{arith}
-use lib.ListN.{length, drop, length-drop}
+use Prim.Native.Nat.{◌-◌, ◌≤◌}
+use mathlib.Core.Path.{◌≡◌}
 use Rattle.spec.specs.Text.{hex_at}
-use Rattle.text.proofs.HexDigits.{hex_from, hex_short, hex_start, hex_next, hex_end}
+use Rattle.text.proofs.HexDigits.{hex_from}
 use Rattle.text.proofs.hex_at.Given as goal
 
 abbrev pub invariant-loop-i : goal.invariant-loop-i

@@ -1,6 +1,5 @@
 -- Each answer is the definition at the tests that led to it. Assumes nothing.
 use native.Mathlib.Omega.{arith}
-use borrow.Author.Rules.{rules}
 use borrow.Author.Tests.{lt-ltb, le-ltb}
 use Rattle.spec.specs.Text.{hex_val}
 use Rattle.text.proofs.hex_of.Goals as goal

@@ -1,5 +1,4 @@
 -- The definition at what was found. Assumes nothing.
-use borrow.Author.Rules.{rules}
 use Rattle.spec.specs.Text.{one_at}
 use Rattle.text.proofs.one_at.Goals as goal
 

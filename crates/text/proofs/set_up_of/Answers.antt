@@ -1,5 +1,4 @@
 -- The definition at what was found. Assumes nothing.
-use borrow.Author.Rules.{rules}
 use Rattle.spec.specs.Text.{set_up_of}
 use Rattle.text.proofs.set_up_of.Goals as goal
 

@@ -1,5 +1,4 @@
 -- The definition at what was found. Assumes nothing.
-use borrow.Author.Rules.{rules}
 use native.Mathlib.Omega.{arith}
 use Rattle.spec.specs.Text.{spaced_at}
 use Rattle.text.proofs.spaced_at.Goals as goal

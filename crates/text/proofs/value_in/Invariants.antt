@@ -1,13 +1,9 @@
 -- The bytes made so far with those of the digits to come are the whole value. Assumes nothing.
-use borrow.Author.Rules.{rules}
-use Prim.Native.Nat.{◌+◌, ◌*◌, ◌-◌, ◌≤◌, ◌<◌}
-use mathlib.Core.Path.{◌≡◌, refl, ap, ◌∙◌}
+use Prim.Native.Nat.{◌+◌, ◌*◌, ◌-◌, ◌≤◌}
+use mathlib.Core.Path.{◌≡◌}
 use mathlib.Core.List.{◌++◌}
-use native.Mathlib.Omega.{arith}
-use lib.ListN.{length, get_or, take, drop, length-set}
-use borrow.Author.Tests.{le-leb, lt-leb}
-use Rattle.spec.specs.Text.{hex_val, hex_bytes, value_in}
-use Rattle.text.proofs.HexDigits.{bytes_more, bytes_end}
+use lib.ListN.{length, take, drop}
+use Rattle.spec.specs.Text.{hex_bytes}
 use Rattle.text.proofs.value_in.Given as goal
 
 abbrev pub invariant-loop-i : goal.invariant-loop-i

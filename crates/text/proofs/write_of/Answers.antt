@@ -1,5 +1,4 @@
 -- The definition at what was found. Assumes nothing.
-use borrow.Author.Rules.{rules}
 use Rattle.spec.specs.Text.{write_of}
 use Rattle.text.proofs.Forms.{bracket_past}
 use Rattle.text.proofs.write_of.Goals as goal
