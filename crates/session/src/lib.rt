@@ -10,7 +10,7 @@ use record::Head;
 use spec::{CLIENTS, Set, Store, VERSIONS};
 
 // The numbers that some lines leave, where the next line begins, and where the text ends.
-#[derive(Drop)]
+#[derive(Clone, Copy)]
 struct FeedResult {
     head: Head,
     from: usize,
@@ -93,7 +93,7 @@ fn feed(
     }
 }
 
-#[derive(Drop)]
+#[derive(Clone, Copy)]
 pub struct Chunked {
     pub store: Store,
     pub from: usize,

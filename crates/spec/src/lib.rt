@@ -25,7 +25,7 @@ pub const CELLS: u32 = 1024;
 pub const VERSIONS: usize = 1024;
 
 // The record: document 01, "What the store holds". A client has an open transaction where its number is not 0.
-#[derive(Drop)]
+#[derive(Clone, Copy)]
 pub struct Store {
     // rows of the store, and the cell limit
     pub rows: u32,
@@ -115,33 +115,33 @@ pub enum AdvanceAnswer {
 }
 
 // What a call hands back: the record and the answer.
-#[derive(Drop)]
+#[derive(Clone, Copy)]
 pub struct FigureTurn {
     pub store: Store,
     pub answer: FigureAnswer,
 }
 
 // What a set-up hands back: the record, the version table and the answer.
-#[derive(Drop)]
+#[derive(Clone, Copy)]
 pub struct SetUpTurn {
     pub store: Store,
     pub versions: [u32; VERSIONS],
     pub answer: FigureAnswer,
 }
 
-#[derive(Drop)]
+#[derive(Clone, Copy)]
 pub struct BeginTurn {
     pub store: Store,
     pub answer: BeginAnswer,
 }
 
-#[derive(Drop)]
+#[derive(Clone, Copy)]
 pub struct ReadTurn {
     pub store: Store,
     pub answer: ReadAnswer,
 }
 
-#[derive(Drop)]
+#[derive(Clone, Copy)]
 pub struct AdvanceTurn {
     pub store: Store,
     pub answer: AdvanceAnswer,

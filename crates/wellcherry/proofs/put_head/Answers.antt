@@ -1,0 +1,10 @@
+-- `wellcherry::put_head`: the eight numbers, one behind the other.
+-- Assumes nothing.
+use mathlib.Core.Path.{refl}
+use Rattle.wellcherry.specs.Inner.{head_in}
+use borrow.Author.Rules.{rules}
+use Rattle.wellcherry.proofs.put_head.Goals as goal
+
+pub returns : goal.returns
+unfolding head_in
+returns c = refl
