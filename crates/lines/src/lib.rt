@@ -1,5 +1,6 @@
 // The answer to a line, on a record apart, the program's two buffers and its version table. Definitions: crate spec, specs/Session.antt.
 #![tactic(auto)]
+
 ghost use Rattle.std.specs.Prelude.{◌≡◌, List, ℕ, ◌+◌, ◌≤◌, length};
 ghost use Rattle.spec.specs.Answers.{read_of};
 ghost use Rattle.spec.specs.Run.{Begin, Read, Write, Advance, Abandon, Trim, Free};

@@ -1,6 +1,7 @@
 // The steps of Advance with the waiting lists of the two queues: lists made and looked at. A step is lent the columns
 // and the buffer that it sees; its promise speaks of any others.
 #![tactic(auto)]
+
 ghost use Rattle.std.specs.Prelude.{◌≡◌, List, ℕ, ◌*◌, ◌≤◌, ◌<◌, length};
 ghost use Rattle.spec.specs.Rows.{data_width};
 ghost use Rattle.spec.specs.Set.{clients};

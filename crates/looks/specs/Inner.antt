@@ -4,7 +4,6 @@ use Rattle.std.specs.Prelude.{ℕ, ◌+◌, ◌-◌, ◌≤◌, ◌<◌, ◌≡�
 use Rattle.spec.specs.Rows.{data_width, commit_width, Row, row_at, rows_from, tag_of, cell_of, commit_number, commit_tag}
 use Rattle.spec.specs.Numbers.{at_least, up_to}
 use Rattle.spec.specs.Look.{commit_of, is_own, find, version_from, newest}
-use Rattle.spec.specs.declared.Number.{Number}
 use Rattle.spec.specs.declared.Number.TheVariants.{Some}
 use Rattle.spec.specs.declared.Found.TheVariants.{Missing}
 use Rattle.spec.specs.declared.Lookup.{Lookup}

@@ -4,6 +4,7 @@
 // the reader, committed rows numbered below the cell's entry in the version table are passed over, and data rows with
 // tags above all that the others up to the snapshot and the reader have. No order of the rows is relied on.
 #![tactic(auto)]
+
 ghost use Rattle.std.specs.Prelude.{◌≡◌, List, ℕ, ◌+◌, ◌*◌, ◌≤◌, ◌<◌, length};
 ghost use Rattle.spec.specs.Rows.{data_width, commit_width, data_rows_in, commit_rows_in, Row, row_at};
 ghost use Rattle.spec.specs.Rows.{tag_of, cell_of, commit_number};

@@ -1,5 +1,6 @@
 // A table of places for tags: a row is found by its tag at once, unless the tag meets another in its place.
 #![tactic(auto)]
+
 ghost use Rattle.std.specs.Prelude.{◌≡◌, ◌*◌, ◌≤◌, ◌<◌, length};
 ghost use Rattle.spec.specs.Rows.{data_width, commit_width, commit_rows_in, row_at, tag_of, commit_tag};
 ghost use Rattle.spec.specs.Look.{commit_of};

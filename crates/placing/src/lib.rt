@@ -1,5 +1,6 @@
 // What a Write places: a row added, or a value replaced.
 #![tactic(auto)]
+
 ghost use Rattle.std.specs.Prelude.{◌≡◌, false, List, ℕ, ◌*◌, ◌≤◌, ◌<◌, leb, length, get_or};
 ghost use Rattle.spec.specs.Set.{clients};
 ghost use Rattle.spec.specs.Rows.{data_width, data_rows_in};

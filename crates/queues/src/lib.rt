@@ -1,6 +1,7 @@
 // The steps of Advance in the two queues: numbers taken and noted, queues entered and left. A step is lent the columns
 // that it sees; its promise speaks of any others. The lists are crate lists.
 #![tactic(auto)]
+
 ghost use Rattle.std.specs.Prelude.{◌≡◌, List, ℕ, ◌<◌};
 ghost use Rattle.spec.specs.Set.{clients};
 ghost use Rattle.spec.specs.Steps.{note_request, enter_commits, note_commit, go_on, finished, take_request, take_commit};

@@ -1,6 +1,7 @@
 // The record apart: its eight numbers by value, and its arrays by client lent, a column each. Fitness, a new record,
 // closing a client, Trim's low; and how a record by value comes apart and together.
 #![tactic(auto)]
+
 ghost use Rattle.std.specs.Prelude.{◌≡◌, false, ◌+◌, ◌<◌, ◌≤◌};
 ghost use Rattle.spec.specs.Set.{clients};
 ghost use Rattle.spec.specs.Image.{closed, clients_of, empty};

@@ -1,5 +1,6 @@
 // Removing rows: the one compaction for Abandon, Conflict and Trim, and the removal of a transaction's rows.
 #![tactic(auto)]
+
 ghost use Rattle.std.specs.Prelude.{◌≡◌, true, ℕ, ◌+◌, ◌*◌, ◌≤◌, ◌<◌, length, get_or};
 ghost use Rattle.spec.specs.Rows.{data_width, data_rows_in, part, spliced, row_at, rows_in, tag_of, filter};
 ghost use Rattle.search.specs.Inner.{Next};

@@ -1,6 +1,7 @@
 // The steps of Advance that touch rows, and a transaction's rows removed. A step is lent the columns and the buffers
 // that it sees; its promise speaks of any others.
 #![tactic(auto)]
+
 ghost use Rattle.std.specs.Prelude.{List, ℕ, ◌*◌, ◌≤◌, ◌<◌, length};
 ghost use Rattle.spec.specs.Rows.{data_width, commit_width};
 ghost use Rattle.spec.specs.Set.{clients};

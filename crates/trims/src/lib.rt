@@ -1,5 +1,6 @@
 // Trim: rows that a later commit has replaced for every reader go.
 #![tactic(auto)]
+
 ghost use Rattle.std.specs.Prelude.{◌≡◌, List, ℕ, ◌*◌, ◌≤◌, length};
 ghost use Rattle.spec.specs.Rows.{data_width, commit_width};
 ghost use Rattle.spec.specs.Image.{clients_of};

@@ -3,6 +3,7 @@
 // so is the version table for Read.
 // None asks anything of its caller. What each leaves and tells is defined in the crate spec: specs/Told.antt.
 #![tactic(auto)]
+
 ghost use Rattle.std.specs.Prelude.{◌≡◌, List, ℕ};
 ghost use Rattle.spec.specs.Calls.{abandon, begin, free, read, trim, write};
 ghost use Rattle.spec.specs.Steps.{advance};

@@ -3,7 +3,7 @@
 use mathlib.Core.Path.{sym, ap, ◌∙◌}
 use mathlib.Core.List.{[]}
 use native.Mathlib.Omega.{arith}
-use borrow.Author.Tests.{lt-leb, le-leb, eq-eqb, ne_eqb, not-true, not-false}
+use borrow.Author.Tests.{lt-leb, le-leb, eq-eqb, ne_eqb}
 use lib.ListN.{get_or}
 use Rattle.spec.specs.Set.{clients}
 use Rattle.spec.specs.Calls.{abandon}
@@ -11,7 +11,6 @@ use Rattle.spec.specs.Bytes.{decode, encode}
 use Rattle.spec.proofs.Ends.{fit_of, ends-unfit, goes, refuses}
 use Rattle.steps.proofs.Outcomes.{removed_ends}
 use Rattle.abandons.proofs.Outcomes.{abandon-removed, removed_figure, removed_within}
-use borrow.Author.Rules.{rules}
 use Rattle.abandons.proofs.abandon.Goals as goal
 
 pub returns-then-not-fit : goal.returns-then-not-fit

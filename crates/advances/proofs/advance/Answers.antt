@@ -2,13 +2,12 @@
 -- Assumes nothing.
 use mathlib.Core.Path.{sym, ◌∙◌}
 use native.Mathlib.Omega.{arith}
-use borrow.Author.Tests.{lt-leb, le-leb, eq-eqb, ne_eqb, not-true, not-false}
+use borrow.Author.Tests.{lt-leb, le-leb, eq-eqb, ne_eqb}
 use lib.ListN.{get_or}
 use Rattle.spec.specs.Set.{clients}
 use Rattle.spec.specs.Steps.{advance}
 use Rattle.spec.specs.Bytes.{decode}
 use Rattle.spec.proofs.Ends.{ends-unfit, goes, refuses}
-use borrow.Author.Rules.{rules}
 use Rattle.advances.proofs.advance.Goals as goal
 
 pub returns-then-not-fit : goal.returns-then-not-fit

@@ -1,13 +1,12 @@
 -- `advances::step`: each arm is the table's step at that stage, and past the table there is none.
 -- Assumes nothing.
 use mathlib.Core.Path.{◌≡◌, refl, sym}
-use Prim.Native.Nat.{ℕ, suc, zero-le, ◌≤◌}
+use Prim.Native.Nat.{ℕ, suc, ◌≤◌}
 use native.Mathlib.Omega.{arith}
 use lib.Arith.{lt_of_le-ne}
 use lib.ListN.{get_or, get_or-eq_default}
 use Rattle.spec.specs.Steps.{steps, no_step}
 use Rattle.spec.proofs.Ends.{fit_of, image-stays}
-use borrow.Author.Rules.{rules}
 use Rattle.advances.proofs.step.Goals as goal
 
 -- one more stage is excluded

@@ -7,7 +7,6 @@ use Rattle.spec.specs.Run as call
 use Rattle.spec.specs.declared.Form.TheVariants.{Abandon}
 use Rattle.record.specs.Inner.{whole, columns_now}
 use Rattle.lines.proofs.FrontRows.{spoken}
-use borrow.Author.Rules.{rules}
 use Rattle.lines.proofs.abandon_said.Goals as goal
 
 pub slice_bounds-abandon-end-2 : goal.slice_bounds-abandon-end-2

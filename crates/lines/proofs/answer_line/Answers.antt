@@ -5,7 +5,6 @@ use Rattle.spec.specs.Session.{response}
 use Rattle.spec.specs.Bytes.{memory_of}
 use Rattle.record.specs.Inner.{whole, columns_now}
 use Rattle.lines.proofs.FrontRows.{by_form}
-use borrow.Author.Rules.{rules}
 use Rattle.lines.proofs.answer_line.Goals as goal
 
 pub returns-in-SetUp : goal.returns-in-SetUp

@@ -8,7 +8,6 @@ use Rattle.spec.specs.declared.Form.TheVariants.{Free}
 use Rattle.spec.specs.Image.{clients_of}
 use Rattle.record.specs.Inner.{whole}
 use Rattle.lines.proofs.FrontRows.{spoken}
-use borrow.Author.Rules.{rules}
 use Rattle.lines.proofs.free_said.Goals as goal
 
 pub slice_bounds-free-end : goal.slice_bounds-free-end

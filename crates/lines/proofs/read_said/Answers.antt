@@ -10,7 +10,6 @@ use Rattle.spec.specs.Image.{clients_of}
 use Rattle.record.specs.Inner.{whole}
 use Rattle.lines.proofs.Readings.{reading_printed, value_short}
 use Rattle.lines.proofs.FrontRows.{spoken}
-use borrow.Author.Rules.{rules}
 use Rattle.lines.proofs.read_said.Goals as goal
 
 pub slice_bounds-read-end : goal.slice_bounds-read-end
@@ -20,8 +19,11 @@ pub slice_bounds-read-end-2 : goal.slice_bounds-read-end-2
 slice_bounds-read-end-2 c = simp length-take (omega (arith, c.front-c.ensures.upper_bound))
 
 pub reading_line-used-requires : goal.reading_line-used-requires
-reading_line-used-requires c = (record { answer_room_in_bounds = c.requires; value_len_bound = rw
-      c.value_read-value.ensures (value_short c.args.rows.now (read_of c.read-answer.result)) })
+reading_line-used-requires c = (record {
+  answer_room_in_bounds = c.requires;
+  value_len_bound = rw
+      c.value_read-value.ensures (value_short c.args.rows.now (read_of c.read-answer.result));
+})
 
 pub returns : goal.returns
 returns c =

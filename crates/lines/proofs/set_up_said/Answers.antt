@@ -7,7 +7,6 @@ use Rattle.spec.specs.declared.Form.TheVariants.{SetUp}
 use Rattle.spec.specs.Image.{no_versions}
 use Rattle.record.specs.Inner.{whole, columns_now, no_clients}
 use Rattle.lines.proofs.FrontRows.{too_many, versions_made, set_up_spoken}
-use borrow.Author.Rules.{rules}
 use Rattle.lines.proofs.set_up_said.Goals as goal
 
 pub returns-then-count-gt1024 : goal.returns-then-count-gt1024

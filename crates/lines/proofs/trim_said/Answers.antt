@@ -8,7 +8,6 @@ use Rattle.spec.specs.declared.Form.TheVariants.{Trim}
 use Rattle.spec.specs.Image.{clients_of}
 use Rattle.record.specs.Inner.{whole}
 use Rattle.lines.proofs.FrontRows.{spoken}
-use borrow.Author.Rules.{rules}
 use Rattle.lines.proofs.trim_said.Goals as goal
 
 pub slice_bounds-trim-end-2 : goal.slice_bounds-trim-end-2

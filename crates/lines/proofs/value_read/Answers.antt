@@ -1,7 +1,6 @@
 -- Each arm is the definition's.
 -- Assumes nothing.
 use Rattle.spec.specs.Values.{value_from}
-use borrow.Author.Rules.{rules}
 use Rattle.lines.proofs.value_read.Goals as goal
 
 pub returns-in-Value : goal.returns-in-Value

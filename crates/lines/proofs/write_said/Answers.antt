@@ -9,7 +9,6 @@ use Rattle.spec.specs.Text.{value_in}
 use Rattle.spec.specs.Image.{clients_of}
 use Rattle.record.specs.Inner.{whole}
 use Rattle.lines.proofs.FrontRows.{spoken}
-use borrow.Author.Rules.{rules}
 use Rattle.lines.proofs.write_said.Goals as goal
 
 pub slice_bounds-write-end-2 : goal.slice_bounds-write-end-2

@@ -2,7 +2,6 @@
 -- Assumes nothing.
 use Rattle.spec.specs.Bytes.{decode, encode}
 use Rattle.spec.specs.Steps.{list_commits, others}
-use borrow.Author.Rules.{rules}
 use Rattle.lists.proofs.list_commits.Goals as goal
 
 pub returns : goal.returns

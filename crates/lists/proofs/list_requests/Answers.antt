@@ -2,7 +2,6 @@
 -- Assumes nothing.
 use Rattle.spec.specs.Bytes.{decode, encode}
 use Rattle.spec.specs.Steps.{list_requests, others}
-use borrow.Author.Rules.{rules}
 use Rattle.lists.proofs.list_requests.Goals as goal
 
 pub returns : goal.returns

@@ -5,7 +5,6 @@ use borrow.Author.Tests.{eq-eqb, ne_eqb}
 use Rattle.spec.specs.Bytes.{decode}
 use Rattle.spec.specs.Steps.{looked}
 use Rattle.spec.proofs.Ends.{image-stays}
-use borrow.Author.Rules.{rules}
 use Rattle.lists.proofs.looked.Goals as goal
 
 pub returns-then-list-eq0 : goal.returns-then-list-eq0

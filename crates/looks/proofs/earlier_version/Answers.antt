@@ -1,12 +1,9 @@
 -- `looks::earlier_version`: no row seen so far counts, so that no row does whose tag is not committed from least up to the snapshot.
-use Prim.Native.Nat.{◌-◌, ◌≤◌, ◌<◌}
-use mathlib.Core.Path.{◌≡◌, refl, sym, ◌∙◌}
+use Prim.Native.Nat.{◌-◌, ◌<◌}
+use mathlib.Core.Path.{refl, sym, ◌∙◌}
 use native.Mathlib.Decide.{dec_le}
 use native.Mathlib.Omega.{arith}
 use borrow.Author.Rules.{rules}
-use Rattle.spec.specs.Rows.{row_at, rows_in, cell_of}
-use Rattle.spec.specs.declared.Lookup.TheVariants.{Nothing}
-use Rattle.looks.specs.Inner.{Seen}
 use Rattle.looks.proofs.Recent.{numbered_below}
 use Rattle.looks.proofs.Sight.{seen_same, seen-idle, seen_past, new_tag, last_own, last_committed}
 use Rattle.looks.proofs.earlier_version.Goals as goal

@@ -1,10 +1,9 @@
 -- `looks::last_cell`: no row behind row i is a hit, thirty-two a turn, then eight, then one by one; no row has a cell above
 -- 65,535.
-use Prim.Native.Nat.{◌≤◌, ◌-◌}
-use mathlib.Core.Path.{◌≡◌, refl, sym, ◌∙◌}
+use Prim.Native.Nat.{◌-◌}
+use mathlib.Core.Path.{refl, sym, ◌∙◌}
 use native.Mathlib.Omega.{arith}
-use Rattle.spec.specs.Rows.{row_at, cell_of}
-use Rattle.search.proofs.Passes.{Past, past_none, past-miss, past-joined, last_none, last_found}
+use Rattle.search.proofs.Passes.{past_none, past-miss, past-joined, last_none, last_found}
 use Rattle.looks.proofs.Sight.{cell_fits}
 use Rattle.looks.proofs.last_cell.Goals as goal
 

@@ -1,9 +1,7 @@
 -- `looks::last_tag`: no row behind row i is a hit, thirty-two a turn and then one by one.
 use Prim.Native.Nat.{◌≤◌, ◌-◌}
-use mathlib.Core.Path.{refl}
-use native.Mathlib.Omega.{arith}
 use Rattle.spec.specs.Rows.{row_at, tag_of}
-use Rattle.search.proofs.Passes.{Past, past_none, past-miss, past-joined, last_none, last_found}
+use Rattle.search.proofs.Passes.{Past}
 use Rattle.looks.proofs.last_tag.Given as goal
 
 abbrev pub invariant-loop-j : goal.invariant-loop-j

@@ -1,12 +1,8 @@
 -- `looks::last_version`: no row from row until on counts.
-use Prim.Native.Nat.{◌-◌, ◌≤◌, ◌<◌}
-use mathlib.Core.Path.{◌≡◌, refl, sym, ◌∙◌}
+use Prim.Native.Nat.{◌-◌, ◌<◌}
+use mathlib.Core.Path.{refl, sym, ◌∙◌}
 use native.Mathlib.Omega.{arith}
-use borrow.Author.Rules.{rules}
-use Rattle.spec.specs.Rows.{rows_in}
-use Rattle.spec.specs.declared.Lookup.TheVariants.{Nothing}
 use Rattle.spec.specs.Look.{least_looked}
-use Rattle.looks.specs.Inner.{Seen}
 use Rattle.looks.proofs.Sight.{seen_none, seen_same, seen-idle, seen_past_cells, last_own, last_committed}
 use Rattle.looks.proofs.last_version.Goals as goal
 

@@ -1,10 +1,8 @@
 -- `looks::least_tag`: what it has come to is at most the reader's number and the tags of the rows passed.
-use Prim.Native.Nat.{ℕ, ◌+◌, ◌≤◌, ◌-◌}
+use Prim.Native.Nat.{ℕ, ◌+◌, ◌≤◌}
 use mathlib.Core.List.{List}
-use mathlib.Core.Logic.{⊎_elim}
 use native.Mathlib.Omega.{arith}
 use borrow.Author.Count.{below_more}
-use borrow.Author.Rules.{rules}
 use Rattle.spec.specs.Rows.{row_at, commit_tag}
 use Rattle.looks.specs.Inner.{LeastTag}
 use Rattle.looks.proofs.least_tag.Goals.{else-other-least, then-other-least}

@@ -1,11 +1,5 @@
 -- `looks::least_tag`: what it has come to is at most the reader's number and the tags of the rows passed.
-use Prim.Native.Nat.{ℕ, ◌+◌, ◌≤◌, ◌-◌}
-use mathlib.Core.List.{List}
-use mathlib.Core.Logic.{⊎_elim}
-use native.Mathlib.Omega.{arith}
-use borrow.Author.Count.{below_more}
-use borrow.Author.Rules.{rules}
-use Rattle.spec.specs.Rows.{row_at, commit_tag}
+use Prim.Native.Nat.{◌-◌}
 use Rattle.looks.specs.Inner.{LeastTag}
 use Rattle.looks.proofs.least_tag.Given as goal
 

@@ -1,16 +1,10 @@
 -- `looks::look_before`: the best of the rows seen is numbered number or above, so that no row counts whose tag is not committed from there on.
 use Prim.Native.Nat.{◌-◌, ◌≤◌, ◌<◌}
-use mathlib.Core.Path.{◌≡◌, sym, ◌∙◌}
-use native.Mathlib.Decide.{dec_le}
-use native.Mathlib.Omega.{arith}
-use borrow.Author.Rules.{rules}
-use Rattle.spec.specs.Rows.{row_at, rows_in, tag_of, cell_of}
-use Rattle.spec.specs.declared.Lookup.TheVariants.{Version}
-use Rattle.spec.specs.Numbers.{at_least, up_to}
-use Rattle.spec.specs.Look.{commit_of, least_looked, newer, version_at}
+use mathlib.Core.Path.{◌≡◌}
+use Rattle.spec.specs.Rows.{row_at, rows_in, cell_of}
+use Rattle.spec.specs.Look.{least_looked}
 use Rattle.looks.specs.Inner.{Seen}
-use Rattle.looks.proofs.Recent.{numbered_below, NumberedFrom, bound_serves, newer_from}
-use Rattle.looks.proofs.Sight.{seen_same, seen_all, seen-version, seen_past_cells, seen_past, old_tag}
+use Rattle.looks.proofs.Recent.{NumberedFrom}
 use Rattle.looks.proofs.look_before.Given as goal
 
 abbrev pub invariant-loop-i : goal.invariant-loop-i

@@ -1,7 +1,6 @@
 -- `looks::look_for`: the last row that counts is the reader's own, or the one that `look_before` starts at.
 use mathlib.Core.Path.{◌≡◌, sym, ◌∙◌}
 use native.Mathlib.Omega.{arith}
-use borrow.Author.Rules.{rules}
 use Rattle.spec.specs.Rows.{row_at, rows_in, tag_of}
 use Rattle.spec.specs.Look.{least_looked}
 use Rattle.looks.proofs.Recent.{at_least_from}

@@ -1,10 +1,8 @@
 -- `looks::most_tag`: what it has come to is at least the reader's number and the tags of the rows passed that are numbered up to the snapshot.
-use Prim.Native.Nat.{ℕ, ◌+◌, ◌≤◌, ◌-◌}
+use Prim.Native.Nat.{ℕ, ◌+◌, ◌≤◌}
 use mathlib.Core.List.{List}
-use mathlib.Core.Logic.{⊎_elim}
 use native.Mathlib.Omega.{arith}
 use borrow.Author.Count.{below_more}
-use borrow.Author.Rules.{rules}
 use Rattle.spec.specs.Rows.{row_at, commit_number, commit_tag}
 use Rattle.looks.specs.Inner.{MostTag}
 use Rattle.looks.proofs.most_tag.Goals as goal
@@ -28,12 +26,12 @@ loop-i-preserved c =
     let loop = c.loop-i in
     let number = c.commit_number_at.ensures in
     elim c.if-commit_number_at-snapshot.branch [
-      then-commit_number_at-snapshot+then-most-other w ↦
+      | then-commit_number_at-snapshot+then-most-other w ↦
           rw w.most-is (most_more w.commit_tag_at-other.result loop.invariant (omega (arith, w.if-most-other.true))
           (λ u. omega (arith, w.commit_tag_at-other.ensures)))
-    | then-commit_number_at-snapshot+else-most-other w ↦
+      | then-commit_number_at-snapshot+else-most-other w ↦
           rw w.most-is (most_more loop.most loop.invariant (omega arith) (λ u. omega (arith, w.if-most-other.false, w.commit_tag_at-other.ensures)))
-    | else-commit_number_at-snapshot w ↦
+      | else-commit_number_at-snapshot w ↦
           rw w.most-is (most_more loop.most loop.invariant (omega arith)
           (λ u. absurd (omega (arith, w.if-commit_number_at-snapshot.false, number))))
     ]

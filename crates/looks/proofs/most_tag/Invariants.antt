@@ -1,11 +1,5 @@
 -- `looks::most_tag`: what it has come to is at least the reader's number and the tags of the rows passed that are numbered up to the snapshot.
-use Prim.Native.Nat.{ℕ, ◌+◌, ◌≤◌, ◌-◌}
-use mathlib.Core.List.{List}
-use mathlib.Core.Logic.{⊎_elim}
-use native.Mathlib.Omega.{arith}
-use borrow.Author.Count.{below_more}
-use borrow.Author.Rules.{rules}
-use Rattle.spec.specs.Rows.{row_at, commit_number, commit_tag}
+use Prim.Native.Nat.{◌-◌}
 use Rattle.looks.specs.Inner.{MostTag}
 use Rattle.looks.proofs.most_tag.Given as goal
 

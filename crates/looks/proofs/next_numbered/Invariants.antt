@@ -1,8 +1,7 @@
 -- `looks::next_numbered`: no row that it passed is a hit, thirty-two a turn and then one by one.
 use Prim.Native.Nat.{◌+◌, ◌*◌, ◌≤◌, ◌-◌}
-use native.Mathlib.Omega.{arith}
 use Rattle.spec.specs.Rows.{row_at, commit_number}
-use Rattle.search.proofs.Passes.{Past, past_none, past_same, past-miss, past-found}
+use Rattle.search.proofs.Passes.{Past}
 use Rattle.looks.proofs.next_numbered.Given as goal
 
 abbrev pub invariant-loop-j : goal.invariant-loop-j

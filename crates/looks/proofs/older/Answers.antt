@@ -1,5 +1,4 @@
 -- `looks::older`: rows are passed by their tags, and then by their cells.
-use borrow.Author.Rules.{rules}
 use Rattle.looks.proofs.Sight.{passed}
 use Rattle.looks.proofs.older.Goals as goal
 

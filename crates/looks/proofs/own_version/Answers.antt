@@ -1,10 +1,7 @@
 -- `looks::own_version`: row at is the first own one of the rows from row i on, whatever stands behind row k.
-use Prim.Native.Nat.{◌+◌, ◌-◌, ◌≤◌, ◌<◌}
+use Prim.Native.Nat.{◌+◌, ◌-◌, ◌<◌}
 use mathlib.Core.Path.{◌≡◌, sym, ◌∙◌}
-use mathlib.Core.Logic.{⊎_elim}
 use native.Mathlib.Omega.{arith}
-use borrow.Author.Rules.{rules}
-use Rattle.spec.specs.Rows.{row_at, tag_of}
 use Rattle.looks.proofs.Sight.{FirstOwn, own_first, own-not-cell, own_past, own_read}
 use Rattle.looks.proofs.own_version.Goals.{else-cell_at-cell, then-cell_at-cell}
 use Rattle.looks.proofs.own_version.Goals as goal

@@ -1,11 +1,8 @@
 -- `looks::own_version`: row at is the first own one of the rows from row i on, whatever stands behind row k.
-use Prim.Native.Nat.{◌+◌, ◌-◌, ◌≤◌, ◌<◌}
-use mathlib.Core.Path.{◌≡◌, sym, ◌∙◌}
-use mathlib.Core.Logic.{⊎_elim}
-use native.Mathlib.Omega.{arith}
-use borrow.Author.Rules.{rules}
+use Prim.Native.Nat.{◌-◌, ◌≤◌, ◌<◌}
+use mathlib.Core.Path.{◌≡◌}
 use Rattle.spec.specs.Rows.{row_at, tag_of}
-use Rattle.looks.proofs.Sight.{FirstOwn, own_first, own-not-cell, own_past, own_read}
+use Rattle.looks.proofs.Sight.{FirstOwn}
 use Rattle.looks.proofs.own_version.Given as goal
 
 abbrev pub invariant-loop-i : goal.invariant-loop-i

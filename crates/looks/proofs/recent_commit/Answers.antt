@@ -5,7 +5,6 @@ use mathlib.Core.Path.{◌≡◌, sym, ap, ◌∙◌}
 use mathlib.Core.List.{List}
 use native.Mathlib.Decide.{dec_lt}
 use native.Mathlib.Omega.{arith}
-use borrow.Author.Rules.{rules}
 use Rattle.spec.specs.Rows.{row_at, commit_number, commit_tag}
 use Rattle.spec.specs.declared.Number.TheVariants.{Some}
 use Rattle.spec.specs.Numbers.{at_least, up_to}

@@ -1,5 +1,4 @@
 -- By whether the tag is the last one.
-use borrow.Author.Rules.{rules}
 use Rattle.places.proofs.commit_again.Goals as goal
 
 pub returns-then-tag-last : goal.returns-then-tag-last

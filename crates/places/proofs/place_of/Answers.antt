@@ -1,6 +1,5 @@
 -- As it is defined.
 use mathlib.Core.Path.{refl}
-use borrow.Author.Rules.{rules}
 use native.Mathlib.Omega.{arith}
 use Rattle.places.specs.Inner.{place}
 use Rattle.places.proofs.place_of.Goals as goal

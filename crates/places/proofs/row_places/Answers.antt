@@ -1,9 +1,8 @@
 -- The rows from i on are entered.
 use mathlib.Core.Path.{ap, ◌∙◌}
-use borrow.Author.Rules.{rules}
 use Rattle.spec.specs.Rows.{row_at, tag_of}
 use Rattle.places.specs.Inner.{place}
-use Rattle.places.proofs.Places.{Entered, entered_none, entered_more, entered_all}
+use Rattle.places.proofs.Places.{entered_none, entered_more, entered_all}
 use Rattle.places.proofs.row_places.Goals as goal
 
 pub loop-i-init : goal.loop-i-init

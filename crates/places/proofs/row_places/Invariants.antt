@@ -1,9 +1,6 @@
 -- The rows from i on are entered.
-use mathlib.Core.Path.{ap, ◌∙◌}
-use borrow.Author.Rules.{rules}
 use Rattle.spec.specs.Rows.{row_at, tag_of}
-use Rattle.places.specs.Inner.{place}
-use Rattle.places.proofs.Places.{Entered, entered_none, entered_more, entered_all}
+use Rattle.places.proofs.Places.{Entered}
 use Rattle.places.proofs.row_places.Given as goal
 
 abbrev pub invariant-loop-i : goal.invariant-loop-i

@@ -3,7 +3,6 @@
 use native.Mathlib.Omega.{arith}
 use Rattle.spec.proofs.Ends.{image-stays}
 use Rattle.placing.proofs.Outcomes.{added_full, added-row}
-use borrow.Author.Rules.{rules}
 use Rattle.placing.proofs.new_row.Goals as goal
 
 pub returns-then-h : goal.returns-then-h

@@ -2,7 +2,6 @@
 -- Assumes nothing.
 use native.Mathlib.Omega.{arith}
 use Rattle.placing.proofs.Outcomes.{replaced_row}
-use borrow.Author.Rules.{rules}
 use Rattle.placing.proofs.replace_row.Goals as goal
 
 pub replace_value-requires : goal.replace_value-requires

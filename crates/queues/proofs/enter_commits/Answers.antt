@@ -1,6 +1,5 @@
 -- `queues::enter_commits`: the next stage.
 -- Assumes nothing.
-use borrow.Author.Rules.{rules}
 use Rattle.queues.proofs.enter_commits.Goals as goal
 
 pub returns : goal.returns

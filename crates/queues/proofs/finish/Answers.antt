@@ -3,7 +3,6 @@
 use Rattle.spec.specs.Bytes.{decode}
 use Rattle.spec.specs.Steps.{finished}
 use Rattle.queues.proofs.Closing.{closes}
-use borrow.Author.Rules.{rules}
 use Rattle.queues.proofs.finish.Goals as goal
 
 pub returns : goal.returns

@@ -3,7 +3,6 @@
 use Rattle.spec.specs.Bytes.{decode}
 use Rattle.spec.specs.Steps.{go_on}
 use Rattle.spec.proofs.Ends.{ends_same}
-use borrow.Author.Rules.{rules}
 use Rattle.queues.proofs.go_on.Goals as goal
 
 pub returns : goal.returns

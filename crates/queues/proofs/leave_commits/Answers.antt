@@ -4,7 +4,6 @@ use mathlib.Core.Path.{◌≡◌}
 use Rattle.spec.specs.Image.{cleared}
 use Rattle.spec.specs.Bytes.{decode, encode}
 use Rattle.spec.specs.Steps.{leave_commits}
-use borrow.Author.Rules.{rules}
 use Rattle.queues.proofs.leave_commits.Goals as goal
 
 pub returns : goal.returns

@@ -2,7 +2,6 @@
 -- Assumes nothing.
 use Rattle.spec.specs.Bytes.{decode, encode}
 use Rattle.spec.specs.Steps.{leave_requests}
-use borrow.Author.Rules.{rules}
 use Rattle.queues.proofs.leave_requests.Goals as goal
 
 pub returns : goal.returns

@@ -1,6 +1,5 @@
 -- `queues::note_commit`: the next stage.
 -- Assumes nothing.
-use borrow.Author.Rules.{rules}
 use Rattle.queues.proofs.note_commit.Goals as goal
 
 pub returns : goal.returns

@@ -1,6 +1,5 @@
 -- `queues::note_request`: the next stage.
 -- Assumes nothing.
-use borrow.Author.Rules.{rules}
 use Rattle.queues.proofs.note_request.Goals as goal
 
 pub returns : goal.returns

@@ -4,7 +4,6 @@ use borrow.Author.Tests.{eq-eqb, ne_eqb}
 use Rattle.spec.specs.Bytes.{decode, encode}
 use Rattle.spec.specs.Steps.{take_request}
 use Rattle.spec.proofs.Ends.{image-stays}
-use borrow.Author.Rules.{rules}
 use Rattle.queues.proofs.take_request.Goals as goal
 
 pub returns-then-h-eq-TOP : goal.returns-then-h-eq-TOP

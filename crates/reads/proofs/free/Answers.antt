@@ -3,12 +3,10 @@
 use mathlib.Core.Path.{sym, ◌∙◌}
 use mathlib.Core.List.{[]}
 use native.Mathlib.Omega.{arith}
-use borrow.Author.Tests.{not-true, not-false}
 use Rattle.spec.proofs.Rows.{length_rows}
 use Rattle.spec.specs.Calls.{free}
 use Rattle.spec.specs.Bytes.{decode}
 use Rattle.spec.proofs.Ends.{fit_of, ends-unfit, settles}
-use borrow.Author.Rules.{rules}
 use Rattle.reads.proofs.free.Goals as goal
 
 pub returns-then-not-fit : goal.returns-then-not-fit

@@ -1,6 +1,5 @@
 -- `reads::note` goes by the cases of its definition.
 use native.Mathlib.Omega.{arith}
-use borrow.Author.Rules.{rules}
 use borrow.Author.Tests.{lt-ltb, le-ltb}
 use lib.ListN.{get_or}
 use Rattle.spec.specs.Look.{versions_after}

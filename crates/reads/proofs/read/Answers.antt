@@ -2,7 +2,6 @@
 -- Assumes nothing.
 use native.Mathlib.Omega.{arith}
 use Rattle.reads.proofs.Outcomes.{unfit_table, sought-seen, sought-refused}
-use borrow.Author.Rules.{rules}
 use Rattle.reads.proofs.read.Goals as goal
 
 pub returns-then-versions-ne-VERSIONS : goal.returns-then-versions-ne-VERSIONS

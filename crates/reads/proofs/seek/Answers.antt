@@ -3,14 +3,13 @@
 use mathlib.Core.Path.{sym, ◌∙◌}
 use mathlib.Core.List.{[]}
 use native.Mathlib.Omega.{arith}
-use borrow.Author.Tests.{lt-ltb, lt-leb, le-leb, eq-eqb, ne_eqb, not-true, not-false}
+use borrow.Author.Tests.{lt-ltb, lt-leb, le-leb, eq-eqb, ne_eqb}
 use lib.ListN.{length, get_or}
 use Rattle.spec.specs.Set.{clients}
 use Rattle.spec.specs.Calls.{read}
 use Rattle.spec.specs.Bytes.{decode}
 use Rattle.spec.proofs.Ends.{fit_of, ends-unfit, refuses}
 use Rattle.reads.proofs.Outcomes.{read_found}
-use borrow.Author.Rules.{rules}
 use Rattle.reads.proofs.seek.Goals as goal
 
 pub returns-then-not-fit : goal.returns-then-not-fit

@@ -1,7 +1,5 @@
 -- `reads::value`: the part of the buffer in which the value stands.
 -- Assumes nothing.
-use native.Mathlib.Omega.{arith}
-use borrow.Author.Rules.{rules}
 use borrow.Author.Tests.{lt-leb, le-leb}
 use Rattle.spec.specs.Values.{value_read}
 use Rattle.reads.proofs.value.Goals as goal

@@ -1,7 +1,6 @@
 -- `record::close`: the client's fields are zero, and both columns of lists are cleared.
 -- Assumes nothing.
 use Rattle.spec.specs.Image.{closed}
-use borrow.Author.Rules.{rules}
 use Rattle.record.proofs.close.Goals as goal
 
 pub returns : goal.returns

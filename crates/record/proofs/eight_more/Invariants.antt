@@ -1,11 +1,7 @@
 -- `record::eight_more`: the smallest of the clients passed.
 -- Assumes nothing.
-use mathlib.Core.Path.{◌≡◌}
 use Prim.Native.Nat.{◌+◌, ◌≤◌, ◌-◌}
-use native.Mathlib.Omega.{arith}
-use borrow.Author.Rules.{rules}
 use Rattle.record.specs.Inner.{SmallestOpen}
-use Rattle.record.proofs.Smallest.{one_lower}
 use Rattle.record.proofs.eight_more.Given as goal
 
 abbrev pub invariant-loop-j : goal.invariant-loop-j

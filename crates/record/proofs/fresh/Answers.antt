@@ -1,7 +1,6 @@
 -- `record::fresh` is the record of the empty image.
 -- Assumes nothing.
 use mathlib.Core.Path.{◌∙◌}
-use borrow.Author.Rules.{rules}
 use Rattle.record.proofs.fresh.Goals as goal
 
 pub returns : goal.returns

@@ -1,13 +1,12 @@
 -- `record::smallest_open`: the smallest of the clients passed, eight at a time.
 -- Assumes nothing.
 use mathlib.Core.Path.{◌≡◌, refl, sym, ◌∙◌}
-use mathlib.Core.Logic.{⊎_elim}
-use Prim.Native.Nat.{◌*◌, ◌+◌, ◌≤◌, ◌-◌}
+use Prim.Native.Nat.{◌*◌, ◌+◌}
 use native.Mathlib.Omega.{arith}
 use borrow.Author.Rules.{rules}
 use Rattle.spec.specs.Numbers.{smallest}
 use Rattle.spec.specs.Calls.{readers}
-use Rattle.record.specs.Inner.{short_number, SmallestOpen}
+use Rattle.record.specs.Inner.{short_number}
 use Rattle.record.proofs.smallest_open.Goals.{else-some_open, then-some_open}
 use Rattle.record.proofs.smallest_open.Goals as goal
 

@@ -1,12 +1,9 @@
 -- `record::some_open`: while none was open, those passed count nothing.
 -- Assumes nothing.
 use mathlib.Core.Path.{◌≡◌}
-use mathlib.Core.Bool.{false}
-use mathlib.Core.Logic.{⊎_elim}
-use Prim.Native.Nat.{ℕ, ◌+◌, ◌≤◌, ◌-◌}
+use Prim.Native.Nat.{ℕ, ◌+◌}
 use native.Mathlib.Omega.{arith}
 use borrow.Author.Rules.{rules}
-use Rattle.record.specs.Inner.{AllClosed}
 use Rattle.record.proofs.Smallest.{closed_more}
 use Rattle.record.proofs.some_open.Goals.{else-number-from-ne0, then-number-from-ne0}
 use Rattle.record.proofs.some_open.Goals as goal

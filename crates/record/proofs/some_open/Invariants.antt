@@ -2,12 +2,8 @@
 -- Assumes nothing.
 use mathlib.Core.Path.{◌≡◌}
 use mathlib.Core.Bool.{false}
-use mathlib.Core.Logic.{⊎_elim}
-use Prim.Native.Nat.{ℕ, ◌+◌, ◌≤◌, ◌-◌}
-use native.Mathlib.Omega.{arith}
-use borrow.Author.Rules.{rules}
+use Prim.Native.Nat.{◌+◌, ◌≤◌, ◌-◌}
 use Rattle.record.specs.Inner.{AllClosed}
-use Rattle.record.proofs.Smallest.{closed_more}
 use Rattle.record.proofs.some_open.Given as goal
 
 abbrev pub invariant-loop-j : goal.invariant-loop-j

@@ -1,12 +1,7 @@
 -- Where none was 0 so far, no flag below i is.
 use Prim.Native.Nat.{ℕ, ◌-◌, ◌<◌}
 use mathlib.Core.Path.{◌≡◌}
-use mathlib.Core.Logic.{⊎_elim}
 use lib.ListN.{get_or}
-use borrow.Author.Count.{below_more}
-use borrow.Author.Tests.{eqb-true}
-use native.Mathlib.Omega.{arith}
-use borrow.Author.Rules.{rules}
 use Rattle.removal.proofs.all_stay.Given as goal
 
 abbrev pub invariant-loop-i : goal.invariant-loop-i

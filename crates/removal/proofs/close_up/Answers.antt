@@ -2,7 +2,6 @@
 use Prim.Native.Nat.{◌*◌}
 use native.Mathlib.Omega.{arith}
 use Rattle.removal.proofs.Moving.{kept_all, left_all}
-use borrow.Author.Rules.{rules}
 use Rattle.removal.proofs.close_up.Goals as goal
 
 pub returns-then-first-used : goal.returns-then-first-used
@@ -14,8 +13,13 @@ returns-then-first-used c =
 
 pub keep_rows-left-requires : goal.keep_rows-left-requires
 keep_rows-left-requires c =
-    let gone = c.first_gone-first.ensures in (record { used_in_bounds = c.requires.used_in_bounds; used_bound = c.requires.used_bound; first_lt_used = omega (arith, gone.end, c.if-first-used.false); by_index = λ k h.
-              gone.misses k (omega arith) h })
+    let gone = c.first_gone-first.ensures in (record {
+      used_in_bounds = c.requires.used_in_bounds;
+      used_bound = c.requires.used_bound;
+      first_lt_used = omega (arith, gone.end, c.if-first-used.false);
+      by_index = λ k h.
+          gone.misses k (omega arith) h;
+    })
 
 pub free_rows-requires : goal.free_rows-requires
 free_rows-requires c =

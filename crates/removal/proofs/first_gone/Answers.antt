@@ -1,10 +1,6 @@
 -- Where no flag is 0 there is none; else the rows that were passed have flags that are not 0.
-use Prim.Native.Nat.{ℕ, ◌≤◌, ◌<◌, ◌-◌}
-use mathlib.Core.Path.{◌≡◌}
-use lib.ListN.{get_or}
 use borrow.Author.Count.{below_more}
 use native.Mathlib.Omega.{arith}
-use borrow.Author.Rules.{rules}
 use Rattle.removal.proofs.first_gone.Goals as goal
 
 pub returns-then-all_stay : goal.returns-then-all_stay

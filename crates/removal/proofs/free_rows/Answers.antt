@@ -2,7 +2,6 @@
 use Prim.Native.Nat.{◌*◌, ◌≤◌}
 use native.Mathlib.Omega.{arith}
 use Rattle.removal.proofs.Moving.{freed_room, freed}
-use borrow.Author.Rules.{rules}
 use Rattle.removal.proofs.free_rows.Goals as goal
 
 room : (c : goal.After-slice_known-1)

@@ -1,14 +1,8 @@
 -- Before row i the rows that are kept so far stand at the front, and the next one goes directly behind them.
 use Prim.Native.Nat.{◌*◌, ◌-◌}
-use mathlib.Core.Path.{◌≡◌, refl, sym, ◌∙◌}
-use mathlib.Core.Logic.{⊎_elim}
-use native.Mathlib.Omega.{arith}
-use Rattle.spec.specs.Rows.{row_at, tag_of}
-use Rattle.removal.specs.Inner.{other_tag}
-use Rattle.removal.proofs.Moving.{other_rows, filter_none, filter-one, filter_end, filter_start}
-use Rattle.removal.proofs.Moving.{Moving, moving-start, moving_skip, moving-moved, moving-end}
-use Rattle.removal.proofs.Moving.{moving_row, other_no, other_yes}
-use borrow.Author.Rules.{rules}
+use mathlib.Core.Path.{◌≡◌}
+use Rattle.removal.proofs.Moving.{other_rows}
+use Rattle.removal.proofs.Moving.{Moving}
 use Rattle.removal.proofs.keep_others.Given as goal
 
 abbrev pub invariant-loop-i : goal.invariant-loop-i

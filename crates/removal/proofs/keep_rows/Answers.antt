@@ -1,12 +1,10 @@
 -- Before row i the rows that are kept so far stand at the front, and the next one goes directly behind them.
-use Prim.Native.Nat.{◌+◌, ◌*◌, ◌-◌, ◌≤◌}
+use Prim.Native.Nat.{◌+◌, ◌*◌, ◌≤◌}
 use mathlib.Core.Path.{◌≡◌, refl, ◌∙◌}
-use mathlib.Core.Logic.{⊎_elim}
 use lib.ListN.{length}
 use native.Mathlib.Omega.{arith}
 use Rattle.removal.proofs.Moving.{kept_rows, kept_none, kept_one, kept_end, kept_start, next_place, freed_room}
-use Rattle.removal.proofs.Moving.{Moving, moving-start, moving_skip, moving-moved, moving-end, moving_room}
-use borrow.Author.Rules.{rules}
+use Rattle.removal.proofs.Moving.{moving-start, moving_skip, moving-moved, moving-end, moving_room}
 use Rattle.removal.proofs.keep_rows.Goals.{else-flags-i-ne0, then-flags-i-ne0}
 use Rattle.removal.proofs.keep_rows.Goals as goal
 
@@ -89,17 +87,20 @@ loop-i-preserved c =
     let s = a.buf.now in
     let K = kept_rows a.flags.now w n s in
     let next : loop.from + w ≡ w * (loop.i + 1) = rw loop.invariant.2 (next_place w loop.i) in
-    elim c.if-flags-i-ne0.branch [ then-flags-i-ne0 v ↦ (
-      rw v.left-is (moving-moved K w n s c.requires.used_in_bounds loop.buf _ loop.left loop.to loop.i loop.from (omega arith)
-          (kept_one a.flags.now w n loop.i s (omega arith) v.if-flags-i-ne0.true) loop.invariant.0 loop.invariant.1 loop.invariant.2 (v.buf-is ∙ v.move_row.ensures)),
-      rw (v.left-is, v.to-is, loop.invariant.1) (next_place w loop.left),
-      next,
-    ) | else-flags-i-ne0 v ↦ (
-      rw (v.buf-is, v.left-is) (moving_skip K w n s loop.buf loop.left loop.i (omega arith)
-          (kept_none a.flags.now w n loop.i s (omega arith) v.if-flags-i-ne0.false) loop.invariant.0),
-      rw (v.left-is, v.to-is) loop.invariant.1,
-      next,
-    ) ]
+    elim c.if-flags-i-ne0.branch [
+      | then-flags-i-ne0 v ↦ (
+        rw v.left-is (moving-moved K w n s c.requires.used_in_bounds loop.buf _ loop.left loop.to loop.i loop.from (omega arith)
+            (kept_one a.flags.now w n loop.i s (omega arith) v.if-flags-i-ne0.true) loop.invariant.0 loop.invariant.1 loop.invariant.2 (v.buf-is ∙ v.move_row.ensures)),
+        rw (v.left-is, v.to-is, loop.invariant.1) (next_place w loop.left),
+        next,
+      )
+      | else-flags-i-ne0 v ↦ (
+        rw (v.buf-is, v.left-is) (moving_skip K w n s loop.buf loop.left loop.i (omega arith)
+            (kept_none a.flags.now w n loop.i s (omega arith) v.if-flags-i-ne0.false) loop.invariant.0),
+        rw (v.left-is, v.to-is) loop.invariant.1,
+        next,
+      )
+    ]
 
 pub returns : goal.returns
 returns c =

@@ -1,11 +1,9 @@
 -- Three words are read and then stored; else, after k words the first 8 * k bytes of the row stand at their new place.
-use Prim.Native.Nat.{◌+◌, ◌*◌, ◌-◌, ◌≤◌}
+use Prim.Native.Nat.{◌+◌, ◌*◌, ◌≤◌}
 use mathlib.Core.Path.{◌≡◌, refl, ◌∙◌}
 use lib.ListN.{length}
 use native.Mathlib.Omega.{arith}
-use Rattle.spec.specs.Rows.{part, spliced}
 use Rattle.removal.proofs.Moving.{row_stored, moved_more, moved_none}
-use borrow.Author.Rules.{rules}
 use Rattle.removal.proofs.move_row.Goals as goal
 
 pub put_word-requires-then-words-eq3 : goal.put_word-requires-then-words-eq3

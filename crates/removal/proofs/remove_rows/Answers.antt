@@ -2,7 +2,6 @@
 use native.Mathlib.Omega.{arith}
 use Rattle.removal.specs.Inner.{other_tag}
 use Rattle.removal.proofs.Moving.{filter_all, left_all, other_yes}
-use borrow.Author.Rules.{rules}
 use Rattle.removal.proofs.remove_rows.Goals as goal
 
 pub returns-then-first-used : goal.returns-then-first-used
@@ -20,11 +19,15 @@ keep_others-left-requires c =
 
 pub free_rows-requires : goal.free_rows-requires
 free_rows-requires c =
-    let next = c.next_tag-first.ensures in (record { used_in_bounds = omega (
+    let next = c.next_tag-first.ensures in (record {
+      used_in_bounds = omega (
         arith,
         c.keep_others-left.auto.rows,
         c.requires.used_in_bounds,
-      ); used_nonzero = omega (arith, next.end, c.if-first-used.false); left_le_used = c.keep_others-left.ensures.fewer })
+      );
+      used_nonzero = omega (arith, next.end, c.if-first-used.false);
+      left_le_used = c.keep_others-left.ensures.fewer;
+    })
 
 pub returns : goal.returns
 returns c = c.free_rows.ensures.left _ c.args.rows.now c.keep_others-left.ensures c.keep_others-left.auto.rows

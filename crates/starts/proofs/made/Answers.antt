@@ -2,8 +2,6 @@
 -- Assumes nothing.
 use mathlib.Core.Path.{sym, ◌∙◌}
 use native.Mathlib.Omega.{arith}
-use borrow.Author.Rules.{rules}
-use borrow.Author.Tests.{not-true, not-false}
 use Rattle.spec.specs.Bytes.{set_up}
 use Rattle.spec.proofs.Ends.{accepted}
 use Rattle.starts.proofs.made.Goals as goal

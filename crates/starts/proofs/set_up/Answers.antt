@@ -2,7 +2,6 @@
 -- Assumes nothing.
 use Rattle.spec.specs.Image.{no_versions, empty}
 use Rattle.spec.specs.Bytes.{store_of}
-use borrow.Author.Rules.{rules}
 use Rattle.starts.proofs.set_up.Goals as goal
 
 pub returns : goal.returns

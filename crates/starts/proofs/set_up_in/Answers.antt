@@ -8,7 +8,6 @@ use Rattle.spec.specs.Image.{Clients, no_versions}
 use Rattle.spec.specs.Bytes.{memory_of, SetsUp}
 use Rattle.record.specs.declared.Head.{Head}
 use Rattle.record.specs.Inner.{whole, no_clients}
-use borrow.Author.Rules.{rules}
 use Rattle.starts.proofs.set_up_in.Goals as goal
 
 on_columns : (d c : List ℕ) (w l : ℕ) (h : Head) {k : Clients} {d' c' v : List ℕ} {a : Answer ℕ} → k ≡ no_clients

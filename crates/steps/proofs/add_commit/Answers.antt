@@ -5,7 +5,6 @@ use Rattle.spec.specs.Image.{clients_of}
 use Rattle.spec.proofs.Ends.{image-stays}
 use Rattle.record.specs.Inner.{whole}
 use Rattle.steps.proofs.Outcomes.{commit_full, commit_added}
-use borrow.Author.Rules.{rules}
 use Rattle.steps.proofs.add_commit.Goals as goal
 
 pub returns-then-h : goal.returns-then-h

@@ -3,7 +3,6 @@
 use mathlib.Core.Path.{sym, ap, ◌∙◌}
 use Rattle.spec.specs.Bytes.{encode}
 use Rattle.steps.proofs.Outcomes.{check_found, removed_ends}
-use borrow.Author.Rules.{rules}
 use Rattle.steps.proofs.check.Goals as goal
 
 pub returns-in-Some : goal.returns-in-Some

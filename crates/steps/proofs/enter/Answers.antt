@@ -1,9 +1,7 @@
 -- `steps::enter`: done where the transaction has no row, else stage 1.
 -- Assumes nothing.
-use borrow.Author.Tests.{not-true, not-false}
 use Rattle.spec.specs.Bytes.{decode}
 use Rattle.spec.specs.Steps.{enter}
-use borrow.Author.Rules.{rules}
 use Rattle.steps.proofs.enter.Goals as goal
 
 pub returns-then-not-has_rows : goal.returns-then-not-has_rows

@@ -9,7 +9,6 @@ use Rattle.spec.specs.Calls.{removed}
 use Rattle.spec.specs.Bytes.{decode, store_of}
 use Rattle.record.specs.Inner.{whole, columns_now}
 use Rattle.steps.proofs.Outcomes.{removed_store}
-use borrow.Author.Rules.{rules}
 use Rattle.steps.proofs.remove.Goals as goal
 
 pub overflow_cast-left : goal.overflow_cast-left

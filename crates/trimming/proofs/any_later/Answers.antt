@@ -1,14 +1,9 @@
 -- Any row later among all is any among the rows from i on.
-use Prim.Native.Nat.{◌-◌}
-use mathlib.Core.Path.{◌≡◌, sym, ap, ◌∙◌}
-use mathlib.Core.List.{List}
-use borrow.Author.Rules.{rules}
+use mathlib.Core.Path.{sym, ap, ◌∙◌}
 use native.Mathlib.Omega.{arith}
-use Rattle.spec.specs.Rows.{Row, rows_in, rows_from}
 use Rattle.spec.proofs.Rows.{rows_start}
 use Rattle.spec.specs.Share.{any}
 use Rattle.spec.specs.Trim.{later}
-use Rattle.trimming.specs.Inner.{Numbers}
 use Rattle.search.proofs.Folds.{any_step, any_end}
 use Rattle.trimming.proofs.any_later.Goals as goal
 

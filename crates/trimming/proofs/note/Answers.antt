@@ -1,5 +1,4 @@
 -- The row's number is the newest of its cell, or the row adds nothing.
-use borrow.Author.Rules.{rules}
 use native.Mathlib.Omega.{arith}
 use Rattle.trimming.proofs.Newest.{noted_same, noted_newer}
 use Rattle.trimming.proofs.note.Goals as goal

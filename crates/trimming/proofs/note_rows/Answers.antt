@@ -1,14 +1,14 @@
 -- The numbers below i are right, and any row later among all is one that is noted or one among the rows from i on.
-use Prim.Native.Nat.{ℕ, ◌-◌, ◌<◌}
+use Prim.Native.Nat.{ℕ}
 use mathlib.Core.Path.{◌≡◌, ap, ◌∙◌}
-use lib.ListN.{length, get_or, length-set, length-replicate}
+use lib.ListN.{length-set, length-replicate}
 use borrow.Author.Rules.{rules}
 use native.Mathlib.Omega.{arith}
 use Rattle.spec.specs.Rows.{row_at, rows_in, tag_of}
 use Rattle.spec.specs.Look.{commit_of}
 use Rattle.trimming.specs.Inner.{number_or}
 use Rattle.removal.proofs.Moving.{stored_more}
-use Rattle.trimming.proofs.Newest.{Wanted, newest_start, newest_more, newest_end}
+use Rattle.trimming.proofs.Newest.{newest_start, newest_more, newest_end}
 use Rattle.trimming.proofs.note_rows.Goals as goal
 
 pub loop-i-init : goal.loop-i-init
@@ -44,5 +44,8 @@ loop-i-preserved c =
 pub returns : goal.returns
 returns c =
     let a = c.args in
-    let loop = c.loop-i in (record { numbers = record { each = λ k h. loop.invariant.3 k (omega arith) }; newest = newest_end (rows_in 8 a.entries a.commits.now) a.low a.used a.rows.now loop.newest loop.i c.loop-i-test.false
-          loop.invariant.4 })
+    let loop = c.loop-i in (record {
+      numbers = record { each = λ k h. loop.invariant.3 k (omega arith) };
+      newest = newest_end (rows_in 8 a.entries a.commits.now) a.low a.used a.rows.now loop.newest loop.i c.loop-i-test.false
+          loop.invariant.4;
+    })

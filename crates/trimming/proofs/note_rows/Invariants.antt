@@ -1,14 +1,11 @@
 -- The numbers below i are right, and any row later among all is one that is noted or one among the rows from i on.
 use Prim.Native.Nat.{ℕ, ◌-◌, ◌<◌}
-use mathlib.Core.Path.{◌≡◌, ap, ◌∙◌}
-use lib.ListN.{length, get_or, length-set, length-replicate}
-use borrow.Author.Rules.{rules}
-use native.Mathlib.Omega.{arith}
+use mathlib.Core.Path.{◌≡◌}
+use lib.ListN.{length, get_or}
 use Rattle.spec.specs.Rows.{row_at, rows_in, tag_of}
 use Rattle.spec.specs.Look.{commit_of}
 use Rattle.trimming.specs.Inner.{number_or}
-use Rattle.removal.proofs.Moving.{stored_more}
-use Rattle.trimming.proofs.Newest.{Wanted, newest_start, newest_more, newest_end}
+use Rattle.trimming.proofs.Newest.{Wanted}
 use Rattle.trimming.proofs.note_rows.Given as goal
 
 abbrev pub invariant-loop-i : goal.invariant-loop-i

@@ -1,5 +1,4 @@
 -- By the variant.
-use borrow.Author.Rules.{rules}
 use Rattle.trimming.specs.Inner.{number_or}
 use Rattle.trimming.proofs.number_or.Goals as goal
 

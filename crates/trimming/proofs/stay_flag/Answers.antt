@@ -1,7 +1,6 @@
 -- By the row's number: above low it stays, else it goes where it is below the newest of its cell.
 use mathlib.Core.Path.{sym, ◌∙◌}
 use borrow.Author.Tests.{lt-ltb, le-ltb}
-use borrow.Author.Rules.{rules}
 use native.Mathlib.Omega.{arith}
 use lib.ListN.{get_or}
 use Rattle.spec.specs.Rows.{row_at, rows_in}

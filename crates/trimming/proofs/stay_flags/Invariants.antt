@@ -1,13 +1,10 @@
 -- The flags below i are right.
 use Prim.Native.Nat.{ℕ, ◌-◌, ◌<◌}
-use mathlib.Core.Path.{◌≡◌, refl}
-use lib.ListN.{length, get_or, length-set}
-use borrow.Author.Rules.{rules}
-use native.Mathlib.Omega.{arith}
+use mathlib.Core.Path.{◌≡◌}
+use lib.ListN.{length, get_or}
 use Rattle.std.specs.Prelude.{if◌then◌else◌}
 use Rattle.spec.specs.Rows.{row_at, rows_in}
 use Rattle.spec.specs.Trim.{stays}
-use Rattle.removal.proofs.Moving.{stored_more}
 use Rattle.trimming.proofs.stay_flags.Given as goal
 
 abbrev pub invariant-loop-i : goal.invariant-loop-i

@@ -1,5 +1,4 @@
 -- Two removals, the second by what the first left; none where no row is committed.
-use borrow.Author.Rules.{rules}
 use native.Mathlib.Omega.{arith}
 use Rattle.removal.proofs.Moving.{kept_at_most}
 use Rattle.trimming.proofs.Trimmed.{trim_leaves, untrimmed}

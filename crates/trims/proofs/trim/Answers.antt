@@ -3,13 +3,11 @@
 use mathlib.Core.Path.{refl, sym, ◌∙◌}
 use mathlib.Core.List.{[]}
 use native.Mathlib.Omega.{arith}
-use borrow.Author.Tests.{not-true, not-false}
 use Rattle.spec.specs.Image.{clients_of}
 use Rattle.spec.specs.Bytes.{decode}
 use Rattle.spec.proofs.Ends.{fit_of, ends-unfit, goes}
 use Rattle.record.specs.Inner.{whole}
 use Rattle.trims.proofs.Outcomes.{low_open, low_none}
-use borrow.Author.Rules.{rules}
 use Rattle.trims.proofs.trim.Goals as goal
 
 pub returns-then-not-fit : goal.returns-then-not-fit

@@ -4,7 +4,6 @@ use native.Mathlib.Omega.{arith}
 use Rattle.spec.specs.Image.{clients_of}
 use Rattle.record.specs.Inner.{whole}
 use Rattle.trims.proofs.Outcomes.{trim_ends, trimmed_fewer}
-use borrow.Author.Rules.{rules}
 use Rattle.trims.proofs.trim_by.Goals as goal
 
 pub trim-left-requires : goal.trim-left-requires

@@ -2,7 +2,6 @@
 -- Assumes nothing.
 use mathlib.Core.Path.{refl}
 use Rattle.wellcherry.specs.Inner.{head_in}
-use borrow.Author.Rules.{rules}
 use Rattle.wellcherry.proofs.head_in.Goals as goal
 
 pub returns : goal.returns

@@ -3,7 +3,6 @@
 use Rattle.spec.specs.Told.{figure_told}
 use Rattle.spec.specs.Calls.{abandon}
 use Rattle.wellcherry.proofs.Retold.{retold}
-use borrow.Author.Rules.{rules}
 use Rattle.wellcherry.proofs.wellcherry_call_abandon.Goals as goal
 
 pub returns : goal.returns

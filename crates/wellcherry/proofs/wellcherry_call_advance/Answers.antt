@@ -3,7 +3,6 @@
 use Rattle.spec.specs.Told.{advance_told}
 use Rattle.spec.specs.Steps.{advance}
 use Rattle.wellcherry.proofs.Retold.{retold}
-use borrow.Author.Rules.{rules}
 use Rattle.wellcherry.proofs.wellcherry_call_advance.Goals as goal
 
 pub returns : goal.returns

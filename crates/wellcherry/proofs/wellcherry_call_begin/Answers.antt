@@ -3,7 +3,6 @@
 use Rattle.spec.specs.Told.{begin_told}
 use Rattle.spec.specs.Calls.{begin}
 use Rattle.wellcherry.proofs.Retold.{retold}
-use borrow.Author.Rules.{rules}
 use Rattle.wellcherry.proofs.wellcherry_call_begin.Goals as goal
 
 pub returns : goal.returns

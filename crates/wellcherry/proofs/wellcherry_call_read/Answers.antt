@@ -3,7 +3,6 @@
 use Rattle.spec.specs.Told.{read_told}
 use Rattle.spec.specs.Calls.{read}
 use Rattle.wellcherry.proofs.Retold.{retold}
-use borrow.Author.Rules.{rules}
 use Rattle.wellcherry.proofs.wellcherry_call_read.Goals as goal
 
 pub returns : goal.returns

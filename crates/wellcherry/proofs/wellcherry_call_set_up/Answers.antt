@@ -1,7 +1,6 @@
 -- `wellcherry::wellcherry_call_set_up`: the call on lent columns, its numbers put back, its answer told.
 -- Assumes nothing.
 use Rattle.wellcherry.proofs.Retold.{set_up_retold}
-use borrow.Author.Rules.{rules}
 use Rattle.wellcherry.proofs.wellcherry_call_set_up.Goals as goal
 
 pub returns : goal.returns

@@ -3,7 +3,7 @@
 use mathlib.Core.Path.{sym, ◌∙◌}
 use mathlib.Core.List.{[]}
 use native.Mathlib.Omega.{arith}
-use borrow.Author.Tests.{lt-leb, le-leb, eq-eqb, ne_eqb, not-true, not-false}
+use borrow.Author.Tests.{lt-leb, le-leb, eq-eqb, ne_eqb}
 use lib.ListN.{get_or, length}
 use Rattle.spec.specs.Set.{clients}
 use Rattle.spec.specs.Rows.{rows_in}
@@ -15,7 +15,6 @@ use Rattle.spec.specs.declared.Found.{Found}
 use Rattle.spec.proofs.Ends.{fit_of, ends-unfit, refuses}
 use Rattle.record.specs.Inner.{whole}
 use Rattle.writes.proofs.Outcomes.{own_row, own_rows, write_stores, found_below}
-use borrow.Author.Rules.{rules}
 use Rattle.spec.specs.Share.{cells_of}
 use Rattle.search.proofs.Folds.{cells_fewer}
 use Rattle.writes.proofs.write.Goals as goal
