@@ -1,5 +1,6 @@
 // The answers to the whole lines of a chunk of input. Definitions: crate spec, specs/Session.antt.
 #![tactic(auto)]
+
 ghost use Rattle.std.specs.Prelude.{◌≤◌, length};
 ghost use Rattle.spec.specs.Bytes.{memory_of};
 ghost use Rattle.record.specs.Inner.{columns};

@@ -4,6 +4,7 @@
 // on these. The calls themselves are on a record apart, in crates of their own: here the record comes apart and
 // together. Set-up is passed on.
 #![tactic(auto)]
+
 ghost use Rattle.std.specs.Prelude.{◌≡◌, List, ℕ};
 ghost use Rattle.spec.specs.Answers.{figure_of, begin_of, read_of, advance_of};
 ghost use Rattle.spec.specs.Calls.{abandon, begin, free, read, trim, write};

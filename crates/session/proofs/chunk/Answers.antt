@@ -2,7 +2,6 @@
 -- Assumes nothing.
 use mathlib.Core.Path.{sym}
 use Rattle.session.proofs.Chunks.{fed_by_value}
-use borrow.Author.Rules.{rules}
 use Rattle.session.proofs.chunk.Goals as goal
 
 pub returns : goal.returns

@@ -1,19 +1,15 @@
 -- `session::feed`: what is left to say, behind what was said, is all that is to be said.
 -- Assumes nothing.
-use Prim.Native.Nat.{ℕ, ◌+◌, ◌-◌, ◌≤◌, ◌<◌}
-use mathlib.Core.Path.{◌≡◌, ◌∙◌, refl, sym}
-use mathlib.Core.Logic.{◌⊎◌, inl, inr, ⊎_elim}
+use Prim.Native.Nat.{ℕ, ◌-◌, ◌≤◌, ◌<◌}
+use mathlib.Core.Path.{◌≡◌}
+use mathlib.Core.Logic.{◌⊎◌}
 use mathlib.Core.List.{List, ◌++◌}
-use native.Mathlib.Omega.{arith}
 use lib.ListN.{length, take, drop}
 use Rattle.spec.specs.Image.{clients_of}
 use Rattle.spec.specs.Session.{answers, memory_after}
 use Rattle.spec.specs.Bytes.{Memory, memory_of}
 use Rattle.record.specs.Inner.{whole}
 use Rattle.session.specs.Inner.{lines_of, rest_of}
-use Rattle.scanning.proofs.Newlines.{newline_end}
-use Rattle.session.proofs.Chunks.{rest_at, text_more, state_more}
-use borrow.Author.Rules.{rules}
 use Rattle.session.proofs.feed.Given as goal
 
 -- from the memory w₀ and the text in out₀ the lines between start and from have led to w and the text in out

@@ -1,13 +1,11 @@
 -- What is left to answer, behind what was answered, is all that is to be answered; a chunk that answers no line finds none, since out has room.
 -- Assumes nothing.
-use Prim.Native.Nat.{◌-◌, ◌≤◌}
+use Prim.Native.Nat.{◌≤◌}
 use mathlib.Core.Path.{◌≡◌, ◌∙◌, refl}
-use lib.ListN.{length, drop}
+use lib.ListN.{length}
 use native.Mathlib.Omega.{arith}
 use borrow.Author.Rules.{rules}
 use Rattle.spec.specs.Bytes.{memory_of}
-use Rattle.session.specs.Inner.{lines_of, rest_of}
-use Rattle.spec.specs.Session.{memory_after}
 use Rattle.step.proofs.Draining.{failed, stuck, ended}
 use Rattle.step.proofs.drain.Goals as goal
 
@@ -31,8 +29,11 @@ returns-then-to-from g c =
       same,
       c.chunk-c.auto.out,
       c.requires,
-    ) in (record { from_in_bounds = search rules; emptied = λ e. stuck a.buf.now w₀ w w' l.from c.chunk-c.result.from l.out out'
-          c.chunk-c.result.used l.invariant.4 l.invariant.5 c.chunk-c.ensures c.if-to-from.true room })
+    ) in (record {
+      from_in_bounds = search rules;
+      emptied = λ e. stuck a.buf.now w₀ w w' l.from c.chunk-c.result.from l.out out'
+          c.chunk-c.result.used l.invariant.4 l.invariant.5 c.chunk-c.ensures c.if-to-from.true room;
+    })
 
 pub loop-from-preserved : goal.loop-from-preserved
 loop-from-preserved g c =

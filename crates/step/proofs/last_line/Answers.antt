@@ -2,7 +2,6 @@
 -- Assumes nothing.
 use native.Mathlib.Omega.{arith}
 use lib.ListN.{length-take, length-set}
-use borrow.Author.Rules.{rules}
 use Rattle.step.proofs.last_line.Goals as goal
 
 pub slice_bounds-drain-end : goal.slice_bounds-drain-end

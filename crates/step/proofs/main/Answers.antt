@@ -1,11 +1,9 @@
 -- No more than 81 bytes are kept, the memory and the kept bytes are what the chunks read so far lead to from the start, and each turn is one less.
 -- Assumes nothing.
-use Prim.Native.Nat.{◌≤◌}
 use mathlib.Core.Path.{◌≡◌, sym, subst}
 use mathlib.Core.List.{[]}
 use native.Mathlib.Omega.{arith}
-use lib.ListN.{take, replicate}
-use borrow.Author.Rules.{rules}
+use lib.ListN.{replicate}
 use borrow.Author.Tests.{not-false}
 use Rattle.spec.specs.declared.Store.{Store}
 use Rattle.spec.specs.Image.{no_versions, empty}

@@ -3,7 +3,6 @@
 use mathlib.Core.Path.{sym}
 use Rattle.spec.specs.Calls.{begin}
 use Rattle.store.proofs.ByValue.{by_value}
-use borrow.Author.Rules.{rules}
 use Rattle.store.proofs.begin.Goals as goal
 
 pub returns : goal.returns

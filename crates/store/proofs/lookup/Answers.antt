@@ -1,7 +1,6 @@
 -- `store::lookup`: the value that the answer names, and the version table that the read leaves.
 -- Assumes nothing.
 use mathlib.Core.Path.{ap}
-use borrow.Author.Rules.{rules}
 use Rattle.spec.specs.Values.{value_from}
 use Rattle.store.proofs.lookup.Goals as goal
 

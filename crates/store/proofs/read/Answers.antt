@@ -2,7 +2,6 @@
 -- Assumes nothing.
 use Rattle.spec.specs.Calls.{read}
 use Rattle.store.proofs.ByValue.{by_value}
-use borrow.Author.Rules.{rules}
 use Rattle.store.proofs.read.Goals as goal
 
 pub returns : goal.returns

@@ -3,7 +3,6 @@
 use mathlib.Core.Path.{sym}
 use Rattle.spec.specs.Calls.{write}
 use Rattle.store.proofs.ByValue.{by_value}
-use borrow.Author.Rules.{rules}
 use Rattle.store.proofs.write.Goals as goal
 
 pub returns : goal.returns
