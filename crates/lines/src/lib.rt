@@ -9,6 +9,7 @@ ghost use Rattle.spec.specs.Values.{value_from};
 ghost use Rattle.spec.specs.Session.{said, set_up_response, answer_to};
 ghost use Rattle.printing.specs.Inner.{answer_room};
 ghost use Rattle.record.specs.Inner.{columns, unseen, shared};
+ghost use Rattle.reads.specs.Inner.{read_columns};
 ghost use Rattle.lines.specs.Inner.{Front, Says};
 
 use record::Head;
@@ -155,7 +156,7 @@ fn read_said(
 ) -> Answered
     requires { at + answer_room ≤ length out.old }
     ensures { (q m b w : List ℕ) → Says (said (Form.Read client cell) (Read client cell)) h
-        (columns (shared stage) (shared number) (shared snapshot) (unseen q) (unseen m) (unseen b) (unseen w)) (shared rows) (shared commits) versions
+        (read_columns stage number snapshot q m b w) (shared rows) (shared commits) versions
         out at result }
 {
     let d = front(DATA_ROW * h.rows as usize, rows.len());

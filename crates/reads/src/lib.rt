@@ -9,7 +9,7 @@ ghost use Rattle.spec.specs.Look.{versions_after};
 ghost use Rattle.spec.specs.Rows.{cells};
 ghost use Rattle.spec.specs.Image.{clients_of};
 ghost use Rattle.record.specs.Inner.{whole, columns, unseen, PerformsOn, PerformsWith, shared};
-ghost use Rattle.reads.specs.Inner.{Seeks, OfCell};
+ghost use Rattle.reads.specs.Inner.{Seeks, OfCell, read_columns};
 
 use record::Head;
 use spec::{
@@ -104,7 +104,7 @@ pub fn read(
     cell: u32,
 ) -> ReadAnswer
     ensures { (q m b w : List ℕ) → PerformsWith (read client cell) h
-        (columns (shared stage) (shared number) (shared snapshot) (unseen q) (unseen m) (unseen b) (unseen w)) (shared rows) (shared commits) versions
+        (read_columns stage number snapshot q m b w) (shared rows) (shared commits) versions
         h (read_of result) }
 {
     if versions.len() != VERSIONS {

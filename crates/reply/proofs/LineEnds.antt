@@ -12,10 +12,6 @@ use Rattle.printing.specs.Inner.{Put, answer_room}
 use Rattle.printing.proofs.Texts.{put_then}
 use Rattle.reply.specs.Inner.{line_closed}
 
-pub put_on : {a b d w t : List ℕ} {i j k : ℕ} (m n : ℕ) → Put a i w b j → (Put b j t d k × (k ≤ j + m)) → length w + m ≤ n
-    → (Put a i (w ++ t) d k × (k ≤ i + n))
-put_on m n p q h = (put_then p q.0, omega (arith, p.place, q.1))
-
 -- a number and a text behind it, before a word
 pub head_end : (w : List ℕ) (n : ℕ) (e t : List ℕ) → numbered w n e ++ t ≡ w ++ (numbered [] n e ++ t)
 unfolding numbered
@@ -25,17 +21,6 @@ figure_end : (w : List ℕ) (n : ℕ) → w ++ numbered [] n (line_closed (str "
 unfolding numbered
 figure_end w n = simp append_assoc
 
-pub put_figure : {a b d w : List ℕ} {i j k : ℕ} (n : ℕ) → Put a i w b j → (Put b j (numbered [] n (line_closed (str ")"))) d k × (k ≤ j + 13))
-    → length w ≤ 37 → (Put a i (line_closed (numbered w n (str ")"))) d k × (k ≤ i + 50))
-put_figure {w = w} n p q h = let r = put_on 13 50 p q (omega arith) in (rw (figure_end w n) at r.0, r.1)
-
-pub put_line : {a b d : List ℕ} {i j k : ℕ} (f : Form) (t : List ℕ) → (Put a i (head_text f) b j × (j ≤ i + 40)) → (Put b j (line_closed t) d k × (k ≤ j + 50))
-    → (Put a i (line_text f t) d k × (k ≤ i + answer_room))
-unfolding line_text
-put_line f t p q = (put_then p.0 q.0, omega (arith, p.1, q.1))
-
--- ---- the same without the room, which the callers' bounds give
-
 pub put_closed_figure : {a b d w : List ℕ} {i j k : ℕ} (n : ℕ) → Put a i w b j → Put b j (numbered [] n (line_closed (str ")"))) d k
     → Put a i (line_closed (numbered w n (str ")"))) d k
 put_closed_figure {w = w} n p q = rw (figure_end w n) at (put_then p q)
@@ -44,3 +29,17 @@ pub put_whole_line : {a b d : List ℕ} {i j k : ℕ} (f : Form) (t : List ℕ) 
     → Put a i (line_text f t) d k
 unfolding line_text
 put_whole_line f t p q = put_then p q
+
+-- ---- with the room
+
+pub put_on : {a b d w t : List ℕ} {i j k : ℕ} (m n : ℕ) → Put a i w b j → (Put b j t d k × (k ≤ j + m)) → length w + m ≤ n
+    → (Put a i (w ++ t) d k × (k ≤ i + n))
+put_on m n p q h = (put_then p q.0, omega (arith, p.place, q.1))
+
+pub put_figure : {a b d w : List ℕ} {i j k : ℕ} (n : ℕ) → Put a i w b j → (Put b j (numbered [] n (line_closed (str ")"))) d k × (k ≤ j + 13))
+    → length w ≤ 37 → (Put a i (line_closed (numbered w n (str ")"))) d k × (k ≤ i + 50))
+put_figure n p q h = (put_closed_figure n p q.0, omega (arith, p.place, q.1, h))
+
+pub put_line : {a b d : List ℕ} {i j k : ℕ} (f : Form) (t : List ℕ) → (Put a i (head_text f) b j × (j ≤ i + 40)) → (Put b j (line_closed t) d k × (k ≤ j + 50))
+    → (Put a i (line_text f t) d k × (k ≤ i + answer_room))
+put_line f t p q = (put_whole_line f t p.0 q.0, omega (arith, p.1, q.1))

@@ -9,6 +9,7 @@ ghost use Rattle.spec.specs.Calls.{abandon, begin, free, read, trim, write};
 ghost use Rattle.spec.specs.Steps.{advance};
 ghost use Rattle.spec.specs.Told.{told_of, figure_told, begin_told, read_told, advance_told};
 ghost use Rattle.record.specs.Inner.{columns, unseen, shared};
+ghost use Rattle.reads.specs.Inner.{read_columns};
 ghost use Rattle.wellcherry.specs.Inner.{head_in, TellsOn, TellsWith, TellsNew};
 
 use record::Head;
@@ -188,7 +189,7 @@ pub extern "C" fn wellcherry_call_read(
     cell: u32,
 ) -> ReadGiven
     ensures { (q m b w : List ℕ) → TellsWith read_told (read client cell) (shared head)
-        (columns (shared stage) (shared number) (shared snapshot) (unseen q) (unseen m) (unseen b) (unseen w)) (shared rows) (shared commits) versions
+        (read_columns stage number snapshot q m b w) (shared rows) (shared commits) versions
         (told_of result.refusal result.found result.row) }
 {
     let answer = reads::read(
