@@ -1,58 +1,33 @@
 // Abandon: the transaction's data rows and queue rows go in one step.
 #![tactic(auto)]
 
-ghost use Rattle.spec.specs.Answers.{figure_of};
+ghost use Rattle.spec.specs.Answers.{answer_of};
 ghost use Rattle.spec.specs.Calls.{abandon};
-ghost use Rattle.record.specs.Inner.{columns, PerformsOn, shared};
+ghost use Rattle.record.specs.Inner.{SameArrays, store_at, PerformsOn};
 
-use record::{FigureResult, Head};
-use spec::{CLIENTS, FigureAnswer, LIMIT, Refusal, Set};
+use record::Record;
+use spec::{Answer, LIMIT, Refusal};
 
 // Abandon answers the free figure.
-pub fn abandon(
-    h: Head,
-    stage: &mut [u32; CLIENTS],
-    number: &mut [u32; CLIENTS],
-    snapshot: &mut [u32; CLIENTS],
-    request: &mut [u32; CLIENTS],
-    commit: &mut [u32; CLIENTS],
-    request_waits: &mut [Set; CLIENTS],
-    commit_waits: &mut [Set; CLIENTS],
-    rows: &mut [u8],
-    commits: &[u8],
-    client: u32,
-) -> FigureResult
-    ensures { PerformsOn (abandon client) h
-        (columns stage number snapshot request commit request_waits commit_waits) rows (shared commits)
-        result.head (figure_of result.answer) }
+#[tactic(auto, unfolding(spec::specs::Calls::abandon, spec::specs::Calls::removed), using(record::proofs::Ending::ending))]
+pub fn abandon(r: &mut Record, rows: &mut [u8], commits: &[u8], client: u32) -> Answer<u32>
+    ensures same { SameArrays r.old r.new }
+    ensures does { PerformsOn (abandon client)
+        (store_at r.old) rows.old commits.now (store_at r.new) rows.new commits.now (answer_of result) }
 {
-    if !record::fit(h, stage, rows.len(), commits.len()) {
-        return record::no_figure(h, Refusal::Unfit);
+    if !r.fit(rows.len(), commits.len()) {
+        return Err(Refusal::Unfit);
     }
     if LIMIT <= client {
-        return record::no_figure(h, Refusal::NoClient);
+        return Err(Refusal::NoClient);
     }
     let k = client as usize;
-    if number[k] == 0 {
-        return record::no_figure(h, Refusal::NotOpen);
+    if r.number[k] == 0 {
+        return Err(Refusal::NotOpen);
     }
-    if 12 <= stage[k] {
-        return record::no_figure(h, Refusal::WrongStage);
+    if 12 <= r.stage[k] {
+        return Err(Refusal::WrongStage);
     }
-    let next = steps::remove(
-        h,
-        stage,
-        number,
-        snapshot,
-        request,
-        commit,
-        request_waits,
-        commit_waits,
-        rows,
-        client,
-    );
-    FigureResult {
-        head: next,
-        answer: FigureAnswer::Answered(next.rows - next.used),
-    }
+    steps::remove(r, rows, client);
+    Ok(r.head.rows - r.head.used)
 }

@@ -3,127 +3,58 @@
 
 ghost use Rattle.std.specs.Prelude.{true, ◌≡◌, ◌<◌, length};
 ghost use Rattle.spec.specs.Set.{clients};
-ghost use Rattle.spec.specs.Answers.{advance_of};
+ghost use Rattle.spec.specs.Answers.{answer_of};
 ghost use Rattle.spec.specs.Steps.{advance};
 ghost use Rattle.spec.specs.Bytes.{fits};
-ghost use Rattle.record.specs.Inner.{whole, columns, columns_now, PerformsOn};
+ghost use Rattle.record.specs.Inner.{SameArrays, store_at, PerformsOn};
 ghost use Rattle.advances.specs.Inner.{StepDue};
 
-use record::{AdvanceResult, Head};
-use spec::{CLIENTS, LIMIT, Refusal, Set};
+use record::Record;
+use spec::{Answer, LIMIT, Progress, Refusal};
 
 // The one step that the client's stage calls for.
-fn step(
-    h: Head,
-    stage: &mut [u32; CLIENTS],
-    number: &mut [u32; CLIENTS],
-    snapshot: &mut [u32; CLIENTS],
-    request: &mut [u32; CLIENTS],
-    commit: &mut [u32; CLIENTS],
-    request_waits: &mut [Set; CLIENTS],
-    commit_waits: &mut [Set; CLIENTS],
-    rows: &mut [u8],
-    commits: &mut [u8],
-    client: u32,
-) -> AdvanceResult
+#[tactic(auto, using(record::proofs::Ending::ending))]
+fn step(r: &mut Record, rows: &mut [u8], commits: &mut [u8], client: u32) -> Answer<Progress>
     requires client_lt_clients { client < clients }
-    requires commits_value { fits (whole h (columns_now stage number snapshot request commit request_waits commit_waits))
-        (length rows.old) (length commits.old) ≡ true }
-    ensures { StepDue client h
-        (columns stage number snapshot request commit request_waits commit_waits) rows commits result }
+    requires fit { fits (store_at r.old) (length rows.old) (length commits.old) ≡ true }
+    ensures same { SameArrays r.old r.new }
+    ensures does { StepDue client
+        (store_at r.old) rows.old commits.old (store_at r.new) rows.new commits.new result }
 {
-    let k = client as usize;
-    match stage[k] {
-        0 => steps::enter(
-            h,
-            stage,
-            number,
-            snapshot,
-            request,
-            commit,
-            request_waits,
-            commit_waits,
-            rows,
-            client,
-        ),
-        1 => queues::take_request(h, stage, request, client),
-        2 => queues::note_request(h, stage, client),
-        3 => lists::list_requests(h, stage, number, request_waits, rows, client),
-        4 => lists::look_requests(h, stage, request, request_waits, client),
-        5 => steps::check(
-            h,
-            stage,
-            number,
-            snapshot,
-            request,
-            commit,
-            request_waits,
-            commit_waits,
-            rows,
-            commits,
-            client,
-        ),
-        6 => queues::enter_commits(h, stage, client),
-        7 => queues::take_commit(h, stage, commit, client),
-        8 => queues::note_commit(h, stage, client),
-        9 => lists::list_commits(h, stage, commit_waits, client),
-        10 => lists::look_commits(h, stage, commit, commit_waits, client),
-        11 => steps::add_commit(h, stage, number, commit, commits, client),
-        12 => queues::leave_commits(h, stage, commit_waits, client),
-        13 => queues::leave_requests(
-            h,
-            stage,
-            number,
-            snapshot,
-            request,
-            commit,
-            request_waits,
-            commit_waits,
-            client,
-        ),
-        _ => queues::refuse(h, Refusal::Unfit),
+    match r.stage[client as usize] {
+        0 => steps::enter(r, rows, client),
+        1 => queues::take_request(r, client),
+        2 => queues::note_request(r, client),
+        3 => lists::list_requests(r, rows, client),
+        4 => lists::look_requests(r, client),
+        5 => steps::check(r, rows, commits, client),
+        6 => queues::enter_commits(r, client),
+        7 => queues::take_commit(r, client),
+        8 => queues::note_commit(r, client),
+        9 => lists::list_commits(r, client),
+        10 => lists::look_commits(r, client),
+        11 => steps::add_commit(r, commits, client),
+        12 => queues::leave_commits(r, client),
+        13 => queues::leave_requests(r, client),
+        _ => Err(Refusal::Unfit),
     }
 }
 
 // Advance takes the one step that the client's stage calls for.
-pub fn advance(
-    h: Head,
-    stage: &mut [u32; CLIENTS],
-    number: &mut [u32; CLIENTS],
-    snapshot: &mut [u32; CLIENTS],
-    request: &mut [u32; CLIENTS],
-    commit: &mut [u32; CLIENTS],
-    request_waits: &mut [Set; CLIENTS],
-    commit_waits: &mut [Set; CLIENTS],
-    rows: &mut [u8],
-    commits: &mut [u8],
-    client: u32,
-) -> AdvanceResult
-    ensures { PerformsOn (advance client) h
-        (columns stage number snapshot request commit request_waits commit_waits) rows commits
-        result.head (advance_of result.answer) }
+#[tactic(auto, unfolding(spec::specs::Steps::advance), using(record::proofs::Ending::ending))]
+pub fn advance(r: &mut Record, rows: &mut [u8], commits: &mut [u8], client: u32) -> Answer<Progress>
+    ensures same { SameArrays r.old r.new }
+    ensures does { PerformsOn (advance client)
+        (store_at r.old) rows.old commits.old (store_at r.new) rows.new commits.new (answer_of result) }
 {
-    if !record::fit(h, stage, rows.len(), commits.len()) {
-        return queues::refuse(h, Refusal::Unfit);
+    if !r.fit(rows.len(), commits.len()) {
+        return Err(Refusal::Unfit);
     }
     if LIMIT <= client {
-        return queues::refuse(h, Refusal::NoClient);
+        return Err(Refusal::NoClient);
     }
-    let k = client as usize;
-    if number[k] == 0 {
-        return queues::refuse(h, Refusal::NotOpen);
+    if r.number[client as usize] == 0 {
+        return Err(Refusal::NotOpen);
     }
-    step(
-        h,
-        stage,
-        number,
-        snapshot,
-        request,
-        commit,
-        request_waits,
-        commit_waits,
-        rows,
-        commits,
-        client,
-    )
+    step(r, rows, commits, client)
 }

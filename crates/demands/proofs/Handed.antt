@@ -2,6 +2,7 @@
 -- prints, are those of the value that the plain table is told, whatever the record and the bytes. A read names a row in use: a fit store's
 -- buffer has it.
 -- Assumes nothing.
+use Rattle.spec.specs.Numbers.{Number}
 use Prim.Native.Nat.{ℕ, ◌+◌, ◌*◌, ◌/◌, ◌≤◌, ◌<◌}
 use mathlib.Core.Path.{◌≡◌, refl, sym, ap, ◌∙◌}
 use mathlib.Core.Bool.{Bool, true, false}
@@ -11,19 +12,12 @@ use borrow.Author.Tests.{lt-leb}
 use lib.Dec.{ltb}
 use lib.ListN.{length, drop, length-append, length-drop, take-append-drop}
 use lib.Seq.{take-append-le, drop-append-le}
-use Rattle.std.specs.Prelude.{if◌then◌else◌}
+use Rattle.std.specs.Prelude.{if◌then◌else◌, None, Some}
 use Rattle.spec.specs.Rows.{Row, rows_in, row_at}
 use Rattle.spec.proofs.Rows.{rows_at, length_rows}
 use Rattle.spec.specs.declared.Store.{Store}
-use Rattle.spec.specs.declared.Number.{Number}
-use Rattle.spec.specs.declared.Number.TheVariants.{Some, None}
-use Rattle.spec.specs.declared.Found.TheVariants.{At}
-use Rattle.spec.specs.declared.Lookup.{Lookup}
-use Rattle.spec.specs.declared.Lookup.TheVariants.{Version, Nothing}
-use Rattle.spec.specs.declared.Reading.{Reading}
-use Rattle.spec.specs.declared.Reading.TheVariants.{Value, Unwritten}
-use Rattle.spec.specs.Look.{is_own, find, newer, version_at, newest, own_or, least_looked, version_from, look_from}
-use Rattle.spec.specs.Answers.{Answer, Answered, Refused}
+use Rattle.spec.specs.Look.{is_own, find, newer, version_at, newest, own_or, least_looked, version_from, look_from, Lookup, version}
+use Rattle.spec.specs.Answers.{Answer, Answered, Refused, Reading}
 use Rattle.spec.specs.Image.{Image, with_versions, number_of, snapshot_of, entry_for}
 use Rattle.spec.specs.Calls.{Outcome, read, reading, look_of}
 use Rattle.spec.specs.Bytes.{decode, Memory, memory_of, after_of, encode, fits, on_bytes}
@@ -43,16 +37,16 @@ use Rattle.demands.proofs.Unchanged.{encode_same}
 
 -- what was found is below row n
 abbrev InUse : ℕ → Lookup → Type 0
-InUse n Nothing = Unit {0}
-InUse n (Version j m) = j < n
+InUse n None = Unit {0}
+InUse n (Some f) = f.at < n
 
 newer_in : (n : ℕ) (a b : Lookup) → InUse n a → InUse n b → InUse n (newer a b)
 unfolding newer
-newer_in n Nothing b h g = g
-newer_in n (Version i m) Nothing h g = h
-newer_in n (Version i m) (Version j k) h g = go (ltb m k)
+newer_in n None b h g = g
+newer_in n (Some a) None h g = h
+newer_in n (Some a) (Some b) h g = go (ltb a.number b.number)
   where
-    go : (t : Bool) → InUse n (if t then Version j k else Version i m)
+    go : (t : Bool) → InUse n (if t then Some b else Some a)
     go true = g
     go false = h
 
@@ -72,7 +66,7 @@ unfolding find own_or
 own_in p n i [] v h g = g
 own_in p n i (r ∷ rs) v h g = go (p r) (own_in p n (i + 1) rs v (omega arith) g)
   where
-    go : (t : Bool) → InUse n (own_or (find p (i + 1) rs) v) → InUse n (own_or (if t then At i else find p (i + 1) rs) v)
+    go : (t : Bool) → InUse n (own_or (find p (i + 1) rs) v) → InUse n (own_or (if t then Some i else find p (i + 1) rs) v)
     go true w = omega arith
     go false w = w
 
@@ -86,8 +80,8 @@ look_in e tag cell s ds cs =
 
 -- a row that an answer names is below n
 abbrev Names : ℕ → Answer Reading → Type 0
-Names n (Answered (Value j)) = j < n
-Names n (Answered Unwritten) = Unit {0}
+Names n (Answered (Some j)) = j < n
+Names n (Answered None) = Unit {0}
 Names n (Refused m) = Unit {0}
 
 -- a read leaves all of the image but the version table, and names a row in use
@@ -96,8 +90,8 @@ record Looks (i : Image) (o : Outcome Reading) : Type 0 where
   below : Names (length i.data_rows) o.answer
 
 named : (n : ℕ) (f : Lookup) → InUse n f → Names n (Answered (reading f))
-named n (Version j m) h = h
-named n Nothing h = tt
+named n (Some f) h = h
+named n None h = tt
 
 read_looks : (k x : ℕ) (i : Image) → Looks i (read k x i)
 read_looks k x i = go (read_ends k x i)
@@ -113,16 +107,16 @@ read_looks k x i = go (read_ends k x i)
 
 -- a row that an answer names is one of m's rows in use, and m's data buffer has it
 abbrev Has : Memory → Answer Reading → Type 0
-Has m (Answered (Value j)) = (j < m.store.used) × (24 * j + 24 ≤ length m.data_bytes)
-Has m (Answered Unwritten) = Unit {0}
+Has m (Answered (Some j)) = (j < m.store.used) × (24 * j + 24 ≤ length m.data_bytes)
+Has m (Answered None) = Unit {0}
 Has m (Refused n) = Unit {0}
 
 has_named : (m : Memory) → fits m.store (length m.data_bytes) (length m.commit_bytes) ≡ true
     → (a : Answer Reading) → Names m.store.used a → Has m a
-has_named m e (Answered (Value j)) h =
+has_named m e (Answered (Some j)) h =
     let f = fit_of m.store (length m.data_bytes) (length m.commit_bytes) e in
     (h, omega (arith, h, f.data_rows, f.data_length))
-has_named m e (Answered Unwritten) h = tt
+has_named m e (Answered None) h = tt
 has_named m e (Refused n) h = tt
 
 -- a read leaves the record and the bytes, and names a row that is there
@@ -168,11 +162,11 @@ row_with j d rest h =
 value_with : (m : Memory) (rest : List ℕ) (k x : ℕ) (a : Answer Reading) → Has m a
     → observe_answer (Read k x) (rows_in 24 m.store.used m.data_bytes) a ≡ handed (m.data_bytes ++ rest) a
 unfolding value_read
-value_with m rest k x (Answered (Value j)) h =
+value_with m rest k x (Answered (Some j)) h =
     let d : List ℕ = m.data_bytes in
     let l : j < length (d ++ rest) / 24 = omega (arith, h.1, length-append d rest) in
     rw (rows_at 24 m.store.used j d h.0, lt-leb (length (d ++ rest) / 24) j l, row_with j d rest h.1)
-value_with m rest k x (Answered Unwritten) h = refl
+value_with m rest k x (Answered None) h = refl
 value_with m rest k x (Refused n) h = refl
 
 handed_with : (k x : ℕ) (m : Memory) (rest : List ℕ) → observed (Read k x) m ≡ handed (m.data_bytes ++ rest) (step (Read k x) m).answer
@@ -186,8 +180,8 @@ read_handed k x m = handed_with k x m [] ∙ ap (λ (d : List ℕ). handed d (st
 
 from_handed : (d : List ℕ) (a : Answer Reading) → value_from d a ≡ bytes_in (handed d a)
 unfolding value_from
-from_handed d (Answered (Value j)) = refl
-from_handed d (Answered Unwritten) = refl
+from_handed d (Answered (Some j)) = refl
+from_handed d (Answered None) = refl
 from_handed d (Refused n) = refl
 
 -- what `store::lookup` hands back are the bytes that demand 3 is told
@@ -198,8 +192,8 @@ lookup_handed k x m = from_handed m.data_bytes (step (Read k x) m).answer ∙ ap
 
 text_handed : (k x : ℕ) (d : List ℕ) (a : Answer Reading)
     → answer_text (result_text (Read k x) d) a ≡ answer_text (observed_text (Read k x)) (handed d a)
-text_handed k x d (Answered (Value j)) = refl
-text_handed k x d (Answered Unwritten) = refl
+text_handed k x d (Answered (Some j)) = refl
+text_handed k x d (Answered None) = refl
 text_handed k x d (Refused n) = refl
 
 -- the program, whose memory is m, prints for a read the text of the value that demand 3 is told

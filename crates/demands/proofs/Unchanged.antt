@@ -10,22 +10,17 @@ use mathlib.Core.List.{List, [], ◌∷◌}
 use native.Mathlib.Omega.{arith}
 use lib.ListN.{length}
 use lib.Dec.{leb, eqb}
-use Rattle.std.specs.Prelude.{if◌then◌else◌}
+use Rattle.std.specs.Prelude.{if◌then◌else◌, None, Some}
 use Rattle.spec.specs.Set.{clients}
 use Rattle.spec.specs.Rows.{has_tag, cells}
-use Rattle.spec.specs.declared.Number.{Number}
-use Rattle.spec.specs.declared.Number.TheVariants.{Some, None}
-use Rattle.spec.specs.declared.Found.{Found}
-use Rattle.spec.specs.declared.Found.TheVariants.{At, Missing}
-use Rattle.spec.specs.declared.Reading.{Reading}
 use Rattle.spec.specs.declared.Progress.{Progress}
 use Rattle.spec.specs.declared.Store.{Store}
-use Rattle.spec.specs.Look.{is_own, find}
+use Rattle.spec.specs.Look.{is_own, find, Found}
 use Rattle.spec.specs.Share.{any, cells_of, conflict}
-use Rattle.spec.specs.Answers.{Answered, Refused}
+use Rattle.spec.specs.Answers.{Answered, Refused, Reading}
 use Rattle.spec.specs.Image.{Image, stage_of, number_of, snapshot_of, is_open}
 use Rattle.spec.specs.Calls.{Outcome, replies, refuse, free, begun, begin, read, replaced, added, stored, write, abandon, trimmed_to, trim}
-use Rattle.spec.specs.Numbers.{top}
+use Rattle.spec.specs.Numbers.{top, Number}
 use Rattle.spec.specs.Steps.{go_on, finished, enter, take_request, list_requests, looked, look_requests, checked, check, take_commit}
 use Rattle.spec.specs.Steps.{list_commits, look_commits, add_commit, leave_commits, leave_requests, steps, no_step, advance}
 use Rattle.spec.specs.Bytes.{decode, Memory, After, after_of, encode, fits, on_bytes, accepts, set_up}
@@ -67,8 +62,8 @@ read_quiet k x i = go (read_ends k x i)
 
 stored_quiet : (f : Found) (k x : ℕ) (v : List ℕ) (i : Image) → Quiet i (stored f k x v i)
 unfolding replaced added
-stored_quiet (At j) k x v i = answers i _ _
-stored_quiet Missing k x v i =
+stored_quiet (Some j) k x v i = answers i _ _
+stored_quiet None k x v i =
     test i (leb i.limit (cells_of (number_of i k) i.data_rows)) (refuses i _)
     (test i (leb i.rows (length i.data_rows)) (refuses i _) (answers i _ _))
 

@@ -11,8 +11,7 @@ use native.Mathlib.Omega.{arith}
 use lib.ListN.{length, get_or}
 use Rattle.spec.specs.Set.{clients}
 use Rattle.spec.specs.Rows.{cells}
-use Rattle.spec.specs.declared.Reading.{Reading}
-use Rattle.spec.specs.Answers.{Answered, Refused, unfit}
+use Rattle.spec.specs.Answers.{Answered, Refused, unfit, Reading}
 use Rattle.spec.specs.Image.{Image, is_open, no_versions, empty}
 use Rattle.spec.specs.Calls.{Outcome, reading, look_of, full_look, read}
 use Rattle.spec.specs.Bytes.{After, Memory, decode, store_of, set_up}

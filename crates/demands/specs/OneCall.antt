@@ -1,11 +1,9 @@
 -- Demand 1, of one call on any record, any bytes and any version table: what a refused call leaves, what a refused set-up leaves and hands back, and that what a read
 -- hands back is the value that demand 3 speaks of.
 -- Assumes nothing.
-use Rattle.std.specs.Prelude.{ℕ, ◌≡◌, List, []}
+use Rattle.std.specs.Prelude.{ℕ, ◌≡◌, List, [], None, Some}
 use Rattle.std.proofs.Math.Option.{Option, none, some}
-use Rattle.spec.specs.declared.Reading.{Reading}
-use Rattle.spec.specs.declared.Reading.TheVariants.{Value, Unwritten}
-use Rattle.spec.specs.Answers.{Answer, Answered, Refused}
+use Rattle.spec.specs.Answers.{Answer, Answered, Refused, Reading}
 use Rattle.spec.specs.Image.{no_versions, empty}
 use Rattle.spec.specs.Bytes.{store_of, Memory, After}
 use Rattle.spec.specs.Run.{Call, step}
@@ -30,8 +28,8 @@ pub record SetUpRefused (d c : List ℕ) (a : After ℕ) : Type 0 where
 -- "A read hands back the sixteen bytes as they stand in the data buffer": a Read's answer with the bytes that `store::value` hands back for the
 -- row that it names
 abbrev pub handed : List ℕ → Answer Reading → Answer (Option Sixteen)
-handed d (Answered (Value j)) = Answered (some (value_read j d))
-handed d (Answered Unwritten) = Answered none
+handed d (Answered (Some j)) = Answered (some (value_read j d))
+handed d (Answered None) = Answered none
 handed d (Refused n) = Refused n
 
 -- the bytes in such an answer, none where it has none

@@ -5,8 +5,7 @@
 use Rattle.std.specs.Prelude.{ℕ, ◌≡◌, ◌⊎◌, true, length, get_or}
 use mathlib.Core.List.{List, Memᴰ}
 use Rattle.spec.specs.Rows.{cells}
-use Rattle.spec.specs.declared.Reading.{Reading}
-use Rattle.spec.specs.Answers.{Answered}
+use Rattle.spec.specs.Answers.{Answered, Reading}
 use Rattle.spec.specs.Image.{Image, is_open}
 use Rattle.spec.specs.Calls.{reading, look_of, full_look}
 use Rattle.spec.specs.Bytes.{Memory, decode}

@@ -1,6 +1,7 @@
 -- Advance on an image is, by the view, what Transition.antt says of it, step by step. Three steps have a refusal that a store grown from set-up never
 -- meets: R at its top, C at its top, a full committed buffer (`Ready` says that there is room; Meets.antt and Room.antt prove it).
 -- Assumes nothing.
+use Rattle.std.specs.Prelude.{None, Some}
 use Prim.Native.Nat.{ℕ, ◌+◌, ◌^◌, ◌≤◌, ◌<◌}
 use mathlib.Core.Path.{◌≡◌, refl, sym, ap, ◌∙◌}
 use mathlib.Core.Logic.{◌≢◌, if_pos, if_neg, by_cases}
@@ -16,15 +17,13 @@ use lib.Dec.{eqb, leb}
 use Rattle.spec.specs.Set.{clients, member, size, collect, strike}
 use Rattle.spec.specs.Rows.{commit_row, has_tag, cells}
 use Rattle.spec.proofs.Rows.{commit_number-commit_row, commit_tag-commit_row}
-use Rattle.spec.specs.declared.Number.{Number}
-use Rattle.spec.specs.declared.Number.TheVariants.{Some, None}
 use Rattle.spec.specs.Share.{any, shares, conflict}
 use Rattle.spec.specs.declared.Progress.TheVariants.{Stage, Waiting, Done}
 use Rattle.spec.specs.Answers.{Answered, no_client, not_open}
 use Rattle.spec.specs.Image.{Clients, Image, with_clients, with_rows, with_requested, with_taken, with_last, set_request, set_commit}
 use Rattle.spec.specs.Image.{set_request_waits, set_commit_waits, is_open, stage_of, number_of, snapshot_of, request_of, commit_number_of}
 use Rattle.spec.specs.Calls.{replies, look_of, full_look}
-use Rattle.spec.specs.Numbers.{top}
+use Rattle.spec.specs.Numbers.{top, Number}
 use Rattle.spec.specs.Steps as st
 use Rattle.spec.specs.Steps.{request_queue, commit_queue, struck, others, steps, no_step}
 use Rattle.spec.specs.Run.{Advance}

@@ -8,15 +8,9 @@ use native.Mathlib.Omega.{arith}
 use borrow.Author.Tests.{ltb-true, ltb-false}
 use lib.ListN.{length, drop}
 use lib.Dec.{ltb, eqb}
-use Rattle.std.specs.Prelude.{if◌then◌else◌}
+use Rattle.std.specs.Prelude.{Option, Some, None, if◌then◌else◌}
 use Rattle.spec.specs.declared.Form.{Form}
 use Rattle.spec.specs.declared.Form.TheVariants.{SetUp, Begin, Read, Write, Advance, Abandon, Trim, Free, Other}
-use Rattle.spec.specs.declared.Decimal.{Decimal}
-use Rattle.spec.specs.declared.Decimal.TheVariants.{Is, No}
-use Rattle.spec.specs.declared.OneNumber.{OneNumber}
-use Rattle.spec.specs.declared.OneNumber.TheVariants.{Only, NotOne}
-use Rattle.spec.specs.declared.TwoNumbers.{TwoNumbers}
-use Rattle.spec.specs.declared.TwoNumbers.TheVariants.{Both, NotTwo}
 use Rattle.spec.specs.Numbers.{top}
 use Rattle.spec.specs.Text.{str, digit_val, digits_from, decimal_from, decimal_at, begins, stands, bracket_at, hex_at, spaced, spaced_at, one_at}
 use Rattle.spec.specs.Text.{with_first, two_after, two_at, set_up_with, set_up_after, set_up_of, client_form, read_with, write_value, write_after}
@@ -24,18 +18,18 @@ use Rattle.spec.specs.Text.{write_of, form_in, form_of}
 
 -- ---- a number in a line
 
-abbrev Small : Decimal → Type 0
-Small (Is v n) = v ≤ top
-Small No = Unit {0}
+abbrev Small : Option (ℕ × ℕ) → Type 0
+Small (Some (v, n)) = v ≤ top
+Small None = Unit {0}
 
-small_if : (b : Bool) (x y : Decimal) → Small x → Small y → Small (if b then x else y)
+small_if : (b : Bool) (x y : Option (ℕ × ℕ)) → Small x → Small y → Small (if b then x else y)
 small_if true x y f g = f
 small_if false x y f g = g
 
-unless_large : (v : ℕ) (x : Decimal) → (v ≤ top → Small x) → Small (if ltb top v then No else x)
+unless_large : (v : ℕ) (x : Option (ℕ × ℕ)) → (v ≤ top → Small x) → Small (if ltb top v then None else x)
 unless_large v x f = go (ltb top v) refl
   where
-    go : (t : Bool) → ltb top v ≡ t → Small (if t then No else x)
+    go : (t : Bool) → ltb top v ≡ t → Small (if t then None else x)
     go true e = tt
     go false e = f (ltb-false top v e)
 
@@ -51,7 +45,7 @@ unfolding decimal_from
 from_small i [] = tt
 from_small i (b ∷ s) = go (ltb (digit_val b) 10) refl
   where
-    go : (t : Bool) → ltb (digit_val b) 10 ≡ t → Small (if t then digits_from (digit_val b) (i + 1) s else No)
+    go : (t : Bool) → ltb (digit_val b) 10 ≡ t → Small (if t then digits_from (digit_val b) (i + 1) s else None)
     go true e = let h : digit_val b < 10 = ltb-true (digit_val b) 10 e in digits_small (digit_val b) (i + 1) s (omega arith)
     go false e = tt
 
@@ -63,9 +57,9 @@ spaced_small : (s : List ℕ) (at : ℕ) → Small (spaced_at s at)
 unfolding spaced_at
 spaced_small s at = go (decimal_at s at) (decimal_small s at)
   where
-    go : (d : Decimal) → Small d → Small (spaced s d)
-    go No h = tt
-    go (Is v n) h = small_if (stands 32 s n) _ _ h tt
+    go : (d : Option (ℕ × ℕ)) → Small d → Small (spaced s d)
+    go None h = tt
+    go (Some (v, n)) h = small_if (stands 32 s n) _ _ h tt
 
 -- ---- the first W of a set-up
 
@@ -84,53 +78,53 @@ first_if : (b : Bool) (x y : Form) → FirstSmall x → FirstSmall y → FirstSm
 first_if true x y f g = f
 first_if false x y f g = g
 
-abbrev BothSmall : TwoNumbers → Type 0
-BothSmall NotTwo = Unit {0}
-BothSmall (Both a b) = a ≤ top
+abbrev BothSmall : Option (ℕ × ℕ) → Type 0
+BothSmall None = Unit {0}
+BothSmall (Some (a, b)) = a ≤ top
 
 two_small : (s : List ℕ) (at : ℕ) → BothSmall (two_at s at)
 unfolding two_at
 two_small s at = go (spaced_at s at) (spaced_small s at)
   where
-    one : (a : ℕ) (o : OneNumber) → a ≤ top → BothSmall (with_first a o)
-    one a NotOne h = tt
-    one a (Only b) h = h
+    one : (a : ℕ) (o : Option ℕ) → a ≤ top → BothSmall (with_first a o)
+    one a None h = tt
+    one a (Some b) h = h
 
-    go : (d : Decimal) → Small d → BothSmall (two_after s d)
-    go No h = tt
-    go (Is a n) h = one a (one_at s n) h
+    go : (d : Option (ℕ × ℕ)) → Small d → BothSmall (two_after s d)
+    go None h = tt
+    go (Some (a, n)) h = one a (one_at s n) h
 
 set_up_small : (s : List ℕ) → FirstSmall (set_up_of s)
 unfolding set_up_of
 set_up_small s = go (spaced_at s 8)
   where
-    two : (r : ℕ) (t : TwoNumbers) → BothSmall t → FirstSmall (set_up_with r t)
-    two r NotTwo h = tt
-    two r (Both w l) h = h
+    two : (r : ℕ) (t : Option (ℕ × ℕ)) → BothSmall t → FirstSmall (set_up_with r t)
+    two r None h = tt
+    two r (Some (w, l)) h = h
 
-    go : (d : Decimal) → FirstSmall (set_up_after s d)
-    go No = tt
-    go (Is r n) = two r (two_at s n) (two_small s n)
+    go : (d : Option (ℕ × ℕ)) → FirstSmall (set_up_after s d)
+    go None = tt
+    go (Some (r, n)) = two r (two_at s n) (two_small s n)
 
-client_small : (f : ℕ → Form) (o : OneNumber) → ((k : ℕ) → FirstSmall (f k)) → FirstSmall (client_form f o)
-client_small f NotOne h = tt
-client_small f (Only k) h = h k
+client_small : (f : ℕ → Form) (o : Option ℕ) → ((k : ℕ) → FirstSmall (f k)) → FirstSmall (client_form f o)
+client_small f None h = tt
+client_small f (Some k) h = h k
 
-read_small : (t : TwoNumbers) → FirstSmall (read_with t)
-read_small NotTwo = tt
-read_small (Both k x) = tt
+read_small : (t : Option (ℕ × ℕ)) → FirstSmall (read_with t)
+read_small None = tt
+read_small (Some (k, x)) = tt
 
 write_small : (s : List ℕ) → FirstSmall (write_of s)
 unfolding write_of
 write_small s = go (spaced_at s 7)
   where
-    value : (k : ℕ) (d : Decimal) → FirstSmall (write_value s k d)
-    value k No = tt
-    value k (Is x n) = first_if (bracket_at s (n + 32)) _ _ (first_if (hex_at s n) _ _ tt tt) tt
+    value : (k : ℕ) (d : Option (ℕ × ℕ)) → FirstSmall (write_value s k d)
+    value k None = tt
+    value k (Some (x, n)) = first_if (bracket_at s (n + 32)) _ _ (first_if (hex_at s n) _ _ tt tt) tt
 
-    go : (d : Decimal) → FirstSmall (write_after s d)
-    go No = tt
-    go (Is k n) = value k (spaced_at s n)
+    go : (d : Option (ℕ × ℕ)) → FirstSmall (write_after s d)
+    go None = tt
+    go (Some (k, n)) = value k (spaced_at s n)
 
 form_small : (s : List ℕ) → FirstSmall (form_of s)
 unfolding form_of form_in

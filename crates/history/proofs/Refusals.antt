@@ -11,19 +11,15 @@ use mathlib.Core.List.{List, [], ◌∷◌, Memᴰ as In}
 use borrow.Author.Tests.{eqb-true, eq-eqb}
 use lib.ListN.{length}
 use lib.Dec.{leb, ltb, eqb}
-use Rattle.std.specs.Prelude.{if◌then◌else◌}
+use Rattle.std.specs.Prelude.{if◌then◌else◌, None, Some}
 use Rattle.spec.specs.Set.{clients}
 use Rattle.spec.specs.Rows.{has_tag, cells}
-use Rattle.spec.specs.declared.Number.{Number}
-use Rattle.spec.specs.declared.Number.TheVariants.{Some, None}
-use Rattle.spec.specs.declared.Found.{Found}
-use Rattle.spec.specs.declared.Found.TheVariants.{At, Missing}
-use Rattle.spec.specs.Look.{is_own, find}
+use Rattle.spec.specs.Look.{is_own, find, Found}
 use Rattle.spec.specs.Share.{any, cells_of, conflict}
 use Rattle.spec.specs.declared.Progress.{Progress}
 use Rattle.spec.specs.Image.{Image, number_of, snapshot_of, stage_of, is_open}
 use Rattle.spec.specs.Calls.{Outcome, replies, refuse, free, begun, begin, read, replaced, added, stored, write, abandon, trimmed_to, trim}
-use Rattle.spec.specs.Numbers.{top}
+use Rattle.spec.specs.Numbers.{top, Number}
 use Rattle.spec.specs.Steps.{go_on, finished, enter, take_request, list_requests, looked, look_requests, checked, check, take_commit}
 use Rattle.spec.specs.Steps.{list_commits, look_commits, add_commit, leave_commits, leave_requests, steps, no_step, advance}
 use Rattle.spec.specs.Answers.{Answer, Refused}
@@ -79,8 +75,8 @@ read_listed k x i =
 
 stored_listed : (f : Found) (k x : ℕ) (v : List ℕ) (i : Image) → Lists (refusals (Write k x v)) (stored f k x v i)
 unfolding replaced added
-stored_listed (At j) k x v i = answers _ _
-stored_listed Missing k x v i =
+stored_listed (Some j) k x v i = answers _ _
+stored_listed None k x v i =
     test (leb i.limit (cells_of (number_of i k) i.data_rows)) (refuses 9 i refl)
     (test (leb i.rows (length i.data_rows)) (refuses 10 i refl) (answers _ _))
 

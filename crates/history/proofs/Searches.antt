@@ -17,18 +17,12 @@ use borrow.Author.Tests.{lt-ltb, le-ltb, lt-leb, le-leb, eq-eqb, ne_eqb, eqb-tru
 use lib.ListN.{length, get_or, length-append}
 use lib.Seq.{get_or-append_seam}
 use lib.Dec.{eqb, ltb, leb}
-use Rattle.std.specs.Prelude.{if◌then◌else◌}
+use Rattle.std.specs.Prelude.{if◌then◌else◌, None, Some}
 use Rattle.spec.specs.Rows.{Row, tag_of, cell_of, value_of, commit_number, commit_tag, filter, has_tag, cells}
-use Rattle.spec.specs.declared.Number.{Number}
-use Rattle.spec.specs.declared.Number.TheVariants.{Some, None}
-use Rattle.spec.specs.declared.Found.{Found}
-use Rattle.spec.specs.declared.Found.TheVariants.{At, Missing}
-use Rattle.spec.specs.declared.Lookup.{Lookup}
-use Rattle.spec.specs.declared.Lookup.TheVariants.{Version, Nothing}
 use Rattle.spec.specs.Numbers as n
-use Rattle.spec.specs.Numbers.{lesser, above, up_to}
+use Rattle.spec.specs.Numbers.{lesser, above, up_to, Number}
 use Rattle.spec.specs.Look as k
-use Rattle.spec.specs.Look.{commit_of, is_own, version_of, newer, version_at, newest}
+use Rattle.spec.specs.Look.{commit_of, is_own, version_of, newer, version_at, newest, Found, Lookup, version}
 use Rattle.spec.specs.Share.{any, wrote, cells_of, shares, clash, conflict}
 use Rattle.spec.specs.Table.{Value, Values, has}
 use Rattle.spec.specs.Right.{valued}
@@ -135,8 +129,8 @@ commit_view t (c ∷ cs) =
 -- ---- a transaction's row for a cell
 
 abbrev pub own_value : List Row → Found → Option Value
-own_value ds (At j) = some (value_of (get_or ds j []))
-own_value ds Missing = none
+own_value ds (Some j) = some (value_of (get_or ds j []))
+own_value ds None = none
 
 module _ (t x : ℕ) where
   own_is : (r : Row) → is_own t x r ≡ true → (tag_of r ≡ t) × (cell_of r ≡ x)
@@ -169,7 +163,7 @@ module _ (t x : ℕ) where
       go : (b : Bool) → is_own t x r ≡ b
           → first (value_atₛ t x) (map data_row_of rs) ≡ own_value (pre ++ (r ∷ rs)) (k.find (is_own t x) (length pre + 1) rs)
           → or_next (value_atₛ t x (data_row_of r)) (first (value_atₛ t x) (map data_row_of rs))
-          ≡ own_value (pre ++ (r ∷ rs)) (if b then At (length pre) else k.find (is_own t x) (length pre + 1) rs)
+          ≡ own_value (pre ++ (r ∷ rs)) (if b then Some (length pre) else k.find (is_own t x) (length pre + 1) rs)
       go true h ih = rw (own_value_lem r h, get_or-append_seam pre r rs [])
       go false h ih = rw (own_no r h) ih
 
@@ -259,15 +253,16 @@ cells_view t (r ∷ rs) inside =
 
 -- a find among the rows ds
 abbrev pub version_in : List Row → Lookup → Option (ℕ × DRow)
-version_in ds Nothing = none
-version_in ds (Version i n) = some (n, data_row_of (get_or ds i []))
+version_in ds None = none
+version_in ds (Some f) = some (f.number, data_row_of (get_or ds f.at []))
 
 newer_view : (ds : List Row) (i : ℕ) (r : Row) → get_or ds i [] ≡ r → (a : Number) (b : Lookup)
     → version_in ds (newer (version_at i a) b) ≡ l.better (λ n m. n < m) (λ n m. dec_lt n m) (as_number a) (data_row_of r) (version_in ds b)
 unfolding newer version_at l.better
 newer_view ds i r h None b = refl
-newer_view ds i r h (Some n) Nothing = rw h
-newer_view ds i r h (Some n) (Version j m) =
+newer_view ds i r h (Some n) None = rw h
+newer_view ds i r h (Some n) (Some f) =
+    let m = f.number in
     by_cases (dec_lt n m)
     (λ p. rw (lt-ltb n m p) (sym (if_pos (dec_lt n m) p _ _)))
     (λ p. rw (le-ltb n m (omega (arith, p)), h) (sym (if_neg (dec_lt n m) p _ _)))

@@ -1,6 +1,7 @@
 -- Begin, Read, Abandon and Free on an image are, by the view, what Transition.antt says of them: the client opened, the value found, the client
 -- closed with its rows gone, the free figure. Each call is its chain of tests, then one equation on the view.
 -- Assumes nothing.
+use Rattle.std.specs.Prelude.{None, Some}
 use Prim.Native.Nat.{ℕ, ◌+◌, ◌≤◌, ◌<◌}
 use mathlib.Core.Path.{◌≡◌, refl, ap, ◌∙◌}
 use mathlib.Core.Bool.{true, not}
@@ -13,11 +14,7 @@ use lib.ListN.{length, get_or}
 use lib.Dec.{ltb, leb, eqb}
 use Rattle.spec.specs.Set.{clients}
 use Rattle.spec.specs.Rows.{Row, cells}
-use Rattle.spec.specs.declared.Found.{Found}
-use Rattle.spec.specs.declared.Found.TheVariants.{At, Missing}
-use Rattle.spec.specs.declared.Lookup.{Lookup}
-use Rattle.spec.specs.declared.Lookup.TheVariants.{Version, Nothing}
-use Rattle.spec.specs.Look.{is_own, find, version_of, newest, own_or, look_for}
+use Rattle.spec.specs.Look.{is_own, find, version_of, newest, own_or, look_for, Found, Lookup, version}
 use Rattle.spec.specs.Answers.{Answered, no_client, no_cell, already_open, not_open, wrong_stage, numbers_used_up}
 use Rattle.spec.specs.Image.{Clients, Image, with_versions, is_open, stage_of, number_of, snapshot_of}
 use Rattle.spec.specs.Calls.{begun, begin, reading, look_of, full_look, replies_found, read, removed, abandon, free}
@@ -68,9 +65,9 @@ begin_simulates i k z w =
 
 chosen : (ds : List Row) (o : Found) (w : Lookup) → bytes_read ds (reading (own_or o w)) ≡ or_else (own_value ds o) (m.value_ofₛ (version_in ds w))
 unfolding own_or m.value_ofₛ data_row_of
-chosen ds (At j) w = refl
-chosen ds Missing Nothing = refl
-chosen ds Missing (Version j n) = refl
+chosen ds (Some j) w = refl
+chosen ds None None = refl
+chosen ds None (Some f) = refl
 
 found_view : (t x b : ℕ) (cs ds : List Row)
     → bytes_read ds (reading (look_for t x b ds cs)) ≡ or_else (m.findₛ t x (map data_row_of ds))

@@ -12,14 +12,12 @@ use borrow.Author.Tests.{leb-true, leb-false, eqb-true, eqb-false, not-true, not
 use lib.ListN.{length, get_or, set, take, drop, length-append}
 use lib.Seq.{get_or-append_seam, set-append_seam, take_at, drop_at, length-take-le}
 use lib.Dec.{eqb, leb}
-use Rattle.std.specs.Prelude.{if◌then◌else◌}
+use Rattle.std.specs.Prelude.{if◌then◌else◌, None, Some}
 use Rattle.spec.specs.Set.{clients}
 use Rattle.spec.specs.Rows.{Row, part, number, spliced, tag_of, cell_of, value_of, data_row, with_value, cells}
 use Rattle.spec.proofs.Bytes.{part-take, take_before}
 use Rattle.spec.proofs.Rows.{Wide, tag_of_data_row, cell_of_data_row, value_of_data_row}
-use Rattle.spec.specs.declared.Found.{Found}
-use Rattle.spec.specs.declared.Found.TheVariants.{At, Missing}
-use Rattle.spec.specs.Look.{is_own, find}
+use Rattle.spec.specs.Look.{is_own, find, Found}
 use Rattle.spec.specs.Share.{cells_of}
 use Rattle.spec.specs.Answers.{Answered, no_client, no_cell, not_open, wrong_stage, cell_limit, no_free_row, wrong_length}
 use Rattle.spec.specs.Image.{Image, with_rows, is_open, stage_of, number_of}
@@ -61,7 +59,7 @@ row_view t x v h g l = λ i. record { tag = tag_of_data_row t x v h i; cell = ce
 
 -- ---- the rows after a write
 
-not_missing : {j : ℕ} → Missing ≡ At j → ⊥
+not_missing : {j : ℕ} → None ≡ Some j → ⊥
 not_missing {j} e = let z : ◌≡◌ {A = ℕ} 0 1 = cc in omega arith
 
 module _ (t x : ℕ) (v : List ℕ) (l : length v ≡ 16) where
@@ -69,7 +67,7 @@ module _ (t x : ℕ) (v : List ℕ) (l : length v ≡ 16) where
   abbrev after : List Row → ℕ → List Row
   after ds j = set ds j (with_value v (get_or ds j []))
 
-  replaced_from : (pre rs : List Row) (j : ℕ) → Wide 24 rs → find (is_own t x) (length pre) rs ≡ At j
+  replaced_from : (pre rs : List Row) (j : ℕ) → Wide 24 rs → find (is_own t x) (length pre) rs ≡ Some j
       → map data_row_of pre ++ replace t x v (map data_row_of rs) ≡ map data_row_of (after (pre ++ rs) j)
   unfolding find replace some?
   replaced_from pre [] j w e = absurd (not_missing e)
@@ -98,8 +96,8 @@ module _ (t x : ℕ) (v : List ℕ) (l : length v ≡ 16) where
           (sym (append_assoc (map data_row_of pre) (data_row_of r ∷ []) (replace t x v (map data_row_of rs)))
           ∙ rw (append_assoc pre (r ∷ []) rs, map_join data_row_of pre (r ∷ [])) at ih)
 
-      go : (b : Bool) → is_own t x r ≡ b → (if b then At (length pre) else find (is_own t x) (length pre + 1) rs) ≡ At j
-          → (find (is_own t x) (length pre + 1) rs ≡ At j
+      go : (b : Bool) → is_own t x r ≡ b → (if b then Some (length pre) else find (is_own t x) (length pre + 1) rs) ≡ Some j
+          → (find (is_own t x) (length pre + 1) rs ≡ Some j
           → map data_row_of (pre ++ (r ∷ [])) ++ replace t x v (map data_row_of rs) ≡ map data_row_of (after ((pre ++ (r ∷ [])) ++ rs) j))
           → Goal
       go true h e ih = hit h (let q : length pre ≡ j = cc in q)
@@ -108,7 +106,7 @@ module _ (t x : ℕ) (v : List ℕ) (l : length v ≡ 16) where
 -- ---- the call
 
 module _ (i : Image) (k x : ℕ) (v : List ℕ) (z : Wellformed i) (l : length v ≡ 16) where
-  replaced-view : (j : ℕ) → find (is_own (number_of i k) x) 0 i.data_rows ≡ At j
+  replaced-view : (j : ℕ) → find (is_own (number_of i k) x) 0 i.data_rows ≡ Some j
       → m.figured (view (replaced j v i).image) ≡ m.overwritten (view i) k x v
   unfolding m.overwritten view replaced clients_as client_of
   replaced-view j e = rw (replaced_from (number_of i k) x v l [] i.data_rows j z.data_wide e)
@@ -145,11 +143,11 @@ module _ (i : Image) (k x : ℕ) (v : List ℕ) (z : Wellformed i) (l : length v
     stored-simulates : ((r : DRow) → In r (view i).dat → r.cell < cells) → (o : Found) → find (is_own (number_of i k) x) 0 i.data_rows ≡ o
         → Simulates i (Write k x v) (stored o k x v i)
     unfolding added more
-    stored-simulates inside (At j) e =
+    stored-simulates inside (Some j) e =
         let found : writes_of (view i) k x ≡ some (value_of (get_or i.data_rows j [])) = find_at ∙ rw e in
         simulates i (Write k x v) (replaced j v i) (replaced_figure j ∙ replaced-view j e)
         (replaces k x v (record { may = may; fewer = λ n. absurd (true≢false (sym (ap has found) ∙ n)) }) isopen (rw found tt))
-    stored-simulates inside Missing e =
+    stored-simulates inside None e =
         let new : writes_of (view i) k x ≡ none = find_at ∙ rw e in
         let n : has (writes_of (view i) k x) ≡ false = ap has new in
         let c = count_at inside in

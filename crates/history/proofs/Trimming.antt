@@ -1,5 +1,6 @@
 -- Trim on an image is, by the view, what Transition.antt says of it: low is the same number on both sides, and the same rows go.
 -- Assumes nothing.
+use Rattle.std.specs.Prelude.{None, Some}
 use Prim.Native.Nat.{ℕ, zero, suc, ◌-◌}
 use mathlib.Core.Path.{◌≡◌, refl, sym, ap, ◌∙◌}
 use mathlib.Core.Logic.Dec
@@ -13,9 +14,7 @@ use borrow.Author.Tests.{lt-ltb, le-ltb, eq-eqb, ne_eqb}
 use lib.ListN.{length, length-map}
 use Rattle.spec.specs.Set.{clients}
 use Rattle.spec.specs.Rows.{Row, tag_of, cell_of, commit_tag, has_tag}
-use Rattle.spec.specs.declared.Number.{Number}
-use Rattle.spec.specs.declared.Number.TheVariants.{Some, None}
-use Rattle.spec.specs.Numbers.{lesser, smallest}
+use Rattle.spec.specs.Numbers.{lesser, smallest, Number}
 use Rattle.spec.specs.Look.{commit_of}
 use Rattle.spec.specs.Trim.{between, later, overtaken, stays, trimmed_rows, in_use, trimmed_commits}
 use Rattle.spec.specs.Answers.{Answered}

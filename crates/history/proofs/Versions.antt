@@ -19,17 +19,11 @@ use native.Mathlib.Omega.{arith}
 use borrow.Author.Tests.{lt-ltb, le-ltb, leb-true, ltb-true}
 use lib.ListN.{get_or, set}
 use lib.Dec.{leb, ltb}
-use Rattle.std.specs.Prelude.{if◌then◌else◌}
+use Rattle.std.specs.Prelude.{if◌then◌else◌, None, Some}
 use Rattle.spec.specs.Rows.{Row, cells}
-use Rattle.spec.specs.declared.Number.{Number}
-use Rattle.spec.specs.declared.Number.TheVariants.{Some, None}
-use Rattle.spec.specs.declared.Found.{Found}
-use Rattle.spec.specs.declared.Found.TheVariants.{At, Missing}
-use Rattle.spec.specs.declared.Lookup.{Lookup}
-use Rattle.spec.specs.declared.Lookup.TheVariants.{Version, Nothing}
 use Rattle.spec.specs.declared.Progress.TheVariants.{Stage, Waiting, Conflict, Done}
-use Rattle.spec.specs.Numbers.{at_least}
-use Rattle.spec.specs.Look.{is_own, find, version_of, newer, version_at, newest, own_or, look_for, least_looked, version_from, look_from, versions_after}
+use Rattle.spec.specs.Numbers.{at_least, Number}
+use Rattle.spec.specs.Look.{is_own, find, version_of, newer, version_at, newest, own_or, look_for, least_looked, version_from, look_from, versions_after, Found, Lookup, version}
 use Rattle.spec.specs.Answers.{Answer, Answered, Refused}
 use Rattle.spec.specs.Image.{Image, is_open, number_of, snapshot_of, entry_for, no_versions, empty}
 use Rattle.spec.specs.Calls.{Outcome, look_of, full_look}
@@ -52,28 +46,30 @@ use Rattle.history.proofs.Simulates.{open_number}
 
 -- what was found, where its number is at least m
 keep : ℕ → Lookup → Lookup
-keep m Nothing = Nothing
-keep m (Version i n) = if ltb n m then Nothing else Version i n
+keep m None = None
+keep m (Some f) = if ltb f.number m then None else Some f
 
 keep_version : (m i : ℕ) (a : Number) → version_at i (at_least m a) ≡ keep m (version_at i a)
 unfolding at_least keep version_at
 keep_version m i None = refl
 keep_version m i (Some n) = go (ltb n m)
   where
-    go : (b : Bool) → version_at i (if b then None else Some n) ≡ (if b then Nothing else Version i n)
+    go : (b : Bool) → version_at i (if b then None else Some n) ≡ (if b then None else Some (version i n))
     go true = refl
     go false = refl
 
-newer_none : (a : Lookup) → newer a Nothing ≡ a
+newer_none : (a : Lookup) → newer a None ≡ a
 unfolding newer
-newer_none Nothing = refl
-newer_none (Version i n) = refl
+newer_none None = refl
+newer_none (Some f) = refl
 
 keep-newer : (m : ℕ) (a b : Lookup) → newer (keep m a) (keep m b) ≡ keep m (newer a b)
 unfolding keep newer
-keep-newer m Nothing b = refl
-keep-newer m (Version i n) Nothing = newer_none (if ltb n m then Nothing else Version i n)
-keep-newer m (Version i n) (Version j k) =
+keep-newer m None b = refl
+keep-newer m (Some a) None = newer_none (if ltb a.number m then None else Some a)
+keep-newer m (Some a) (Some b) =
+    let n = a.number in
+    let k = b.number in
     by_cases (dec_lt n k)
     (λ l. by_cases (dec_lt k m)
     (λ q. rw (lt-ltb n k l, lt-ltb k m q, lt-ltb n m (omega arith)))
@@ -91,10 +87,10 @@ unfolding newest keep
 newest-keep m f i [] = refl
 newest-keep m f i (r ∷ rs) = rw (keep_version m i (f r), newest-keep m f (i + 1) rs) (keep-newer m (version_at i (f r)) (newest f (i + 1) rs))
 
-keep_all : (m : ℕ) (a : Lookup) → ((j n : ℕ) → a ≡ Version j n → m ≤ n) → keep m a ≡ a
+keep_all : (m : ℕ) (a : Lookup) → ((j n : ℕ) → a ≡ Some (version j n) → m ≤ n) → keep m a ≡ a
 unfolding keep
-keep_all m Nothing h = refl
-keep_all m (Version j n) h = rw (le-ltb n m (h j n refl))
+keep_all m None h = refl
+keep_all m (Some f) h = rw (le-ltb f.number m (h f.at f.number refl))
 
 -- ---- the entries of a version table
 
@@ -123,7 +119,7 @@ module _ {bounds : Bounds} {p : Plain} (i : Image) (v : Inv bounds (view i) p) (
   abbrev versions : Lookup
   versions = newest (version_of x S i.commit_rows) 0 i.data_rows
 
-  not_below : (j n : ℕ) → versions ≡ Version j n → e ≤ S → e ≤ n
+  not_below : (j n : ℕ) → versions ≡ Some (version j n) → e ≤ S → e ≤ n
   unfolding view
   not_below j n q l = go (known x)
     where
@@ -145,7 +141,7 @@ module _ {bounds : Bounds} {p : Plain} (i : Image) (v : Inv bounds (view i) p) (
           let c = t.last d.0 d.1 (omega (arith, d.2)) d.3 in
           omega (arith, a, c, d.2))
 
-  enough : (j n : ℕ) → versions ≡ Version j n → least_looked e S ≤ n
+  enough : (j n : ℕ) → versions ≡ Some (version j n) → least_looked e S ≤ n
   unfolding least_looked
   enough j n q = go (leb e S) refl
     where
@@ -161,8 +157,13 @@ module _ {bounds : Bounds} {p : Plain} (i : Image) (v : Inv bounds (view i) p) (
 
 -- ---- the table after a Read
 
+-- the number of what was found, 0 where nothing was
+abbrev number_found : Lookup → ℕ
+number_found None = 0
+number_found (Some f) = f.number
+
 -- a commit that the full look finds has its row
-found_row : (i : Image) (k x j n : ℕ) → 0 < n → full_look k x i ≡ Version j n → RowOf (view i).dat (view i).comm n x
+found_row : (i : Image) (k x j n : ℕ) → 0 < n → full_look k x i ≡ Some (version j n) → RowOf (view i).dat (view i).comm n x
 unfolding look_for own_or view
 found_row i k x j n h q = go (find (is_own (number_of i k) x) 0 i.data_rows) q
   where
@@ -172,9 +173,9 @@ found_row i k x j n h q = go (find (is_own (number_of i k) x) 0 i.data_rows) q
     row : DRow
     row = data_row_of (get_or i.data_rows j [])
 
-    go : (o : Found) → own_or o versions ≡ Version j n → RowOf (map data_row_of i.data_rows) (map commit_row_of i.commit_rows) n x
-    go (At a) q = let z : 0 ≡ n = cc in absurd (omega arith)
-    go Missing q =
+    go : (o : Found) → own_or o versions ≡ Some (version j n) → RowOf (map data_row_of i.data_rows) (map commit_row_of i.commit_rows) n x
+    go (Some a) q = let z : 0 ≡ n = ap number_found q in absurd (omega arith)
+    go None q =
         let key = read_key (map commit_row_of i.commit_rows) x (snapshot_of i k) in
         let b = largest-some key (map data_row_of i.data_rows) (n, row)
         (sym (newest_view x (snapshot_of i k) i.commit_rows i.data_rows) ∙ ap (version_in i.data_rows) q) in
@@ -184,12 +185,15 @@ found_row i k x j n h q = go (find (is_own (number_of i k) x) 0 i.data_rows) q
 noted_known : {bounds : Bounds} {p : Plain} (i : Image) → Inv bounds (view i) p → Known i.versions p.book → (k x : ℕ) (l : Lookup)
     → full_look k x i ≡ l → Known (versions_after x l i.versions) p.book
 unfolding versions_after
-noted_known i v known k x Nothing q = known
-noted_known {p = p} i v known k x (Version j n) q = go (ltb (entry_for i x) n) refl
+noted_known i v known k x None q = known
+noted_known {p = p} i v known k x (Some f) q = go (ltb (entry_for i x) f.number) refl
   where
+    n : ℕ
+    n = f.number
+
     new : entry_for i x < n → EntryIn p.book x n
     new l =
-        let r = found_row i k x j n (omega arith) q in
+        let r = found_row i k x f.at n (omega arith) q in
         let e = v.tab.sound r.0 n r.1 r.3 in
         inr (e.0, e.1, e.2, rw (ap e.0.puts (sym r.2) ∙ e.3) tt)
 

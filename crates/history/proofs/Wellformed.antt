@@ -13,29 +13,22 @@ use native.Mathlib.Omega.{arith}
 use borrow.Author.Tests.{leb-false, eqb-true, not-false}
 use lib.Dec.{eqb, leb, ltb}
 use lib.ListN.{length, get_or, set, replicate, length-append, length-set, length-map, length-replicate, get_or-map}
-use Rattle.std.specs.Prelude.{if◌then◌else◌}
+use Rattle.std.specs.Prelude.{if◌then◌else◌, None, Some}
 use Rattle.spec.specs.Set.{clients, member, remove, strike}
 use Rattle.spec.proofs.Sets.{member_above, remove-le, collect-lt}
 use Rattle.spec.specs.Rows.{Row, data_row, commit_row, with_value, filter, has_tag, cells}
 use Rattle.spec.proofs.Bytes.{length-data_row, length-commit_row, length-spliced}
 use Rattle.spec.proofs.Rows.{Wide, wide_append, filter_wide, filter_fewer}
-use Rattle.spec.specs.declared.Number.{Number}
-use Rattle.spec.specs.declared.Number.TheVariants.{Some, None}
-use Rattle.spec.specs.declared.Found.{Found}
-use Rattle.spec.specs.declared.Found.TheVariants.{At, Missing}
-use Rattle.spec.specs.declared.Lookup.{Lookup}
-use Rattle.spec.specs.declared.Lookup.TheVariants.{Version, Nothing}
-use Rattle.spec.specs.declared.Reading.{Reading}
-use Rattle.spec.specs.Look.{is_own, find, versions_after}
+use Rattle.spec.specs.Look.{is_own, find, versions_after, Found, Lookup, version}
 use Rattle.spec.specs.Share.{any, cells_of, shares, conflict}
 use Rattle.spec.specs.Trim.{stays, trimmed_rows, in_use, trimmed_commits}
 use Rattle.spec.specs.declared.Progress.{Progress}
-use Rattle.spec.specs.Answers.{Answer, unfit, no_client, no_cell, not_open, wrong_stage}
+use Rattle.spec.specs.Answers.{Answer, unfit, no_client, no_cell, not_open, wrong_stage, Reading}
 use Rattle.spec.specs.Image.{Clients, Image, set_stage, set_request, set_commit, set_request_waits, set_commit_waits, cleared, unlisted, opened}
 use Rattle.spec.specs.Image.{closed, zeros, no_versions, empty, number_of, snapshot_of, request_of, stage_of, commit_number_of, is_open}
 use Rattle.spec.specs.Calls.{Outcome, refuse, free, begun, begin, look_of, replies_found, read, replaced, added, stored, write, removed, abandon}
 use Rattle.spec.specs.Calls.{low, trimmed_to, trim}
-use Rattle.spec.specs.Numbers.{top}
+use Rattle.spec.specs.Numbers.{top, Number}
 use Rattle.spec.specs.Steps.{request_queue, commit_queue, struck, others, go_on, finished, enter, take_request, list_requests, looked}
 use Rattle.spec.specs.Steps.{look_requests, checked, check, take_commit, list_commits, look_commits, add_commit, leave_commits, leave_requests}
 use Rattle.spec.specs.Steps.{steps, no_step, advance}
@@ -317,11 +310,11 @@ read_ends k x i =
 
 length_after : (x : ℕ) (l : Lookup) (v : List ℕ) → length (versions_after x l v) ≡ length v
 unfolding versions_after
-length_after x Nothing v = refl
-length_after x (Version j n) v = go (ltb (get_or v x 0) n)
+length_after x None v = refl
+length_after x (Some f) v = go (ltb (get_or v x 0) f.number)
   where
-    go : (b : Bool) → length (if b then set v x n else v) ≡ length v
-    go true = length-set v x n
+    go : (b : Bool) → length (if b then set v x f.number else v) ≡ length v
+    go true = length-set v x f.number
     go false = refl
 
 -- ---- the calls
@@ -360,8 +353,8 @@ module _ (i : Image) (h : Wellformed i) where
   replaced_kept j v l = kept (fine_data h _ (wide_value i.data_rows j v l h.data_wide) (simp length-set h.data_fit)) refl
 
   stored_kept : (f : Found) (k x : ℕ) (v : List ℕ) → length v ≡ 16 → Kept i (stored f k x v i)
-  stored_kept (At j) k x v l = replaced_kept j v l
-  stored_kept Missing k x v l = added_kept k x v l
+  stored_kept (Some j) k x v l = replaced_kept j v l
+  stored_kept None k x v l = added_kept k x v l
 
   write_kept : (k x : ℕ) (v : List ℕ) → Kept i (write k x v i)
   unfolding write

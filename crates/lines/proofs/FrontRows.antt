@@ -15,12 +15,10 @@ use lib.ListN.{length, take, drop, replicate, take-append-drop, drop_of_length-l
 use lib.Seq.{take_all, take-length, drop-length}
 use Rattle.spec.specs.declared.Store.{Store}
 use Rattle.spec.specs.declared.Form.{Form}
-use Rattle.spec.specs.declared.FigureAnswer.{FigureAnswer}
-use Rattle.spec.specs.declared.FigureAnswer.TheVariants as figure
-use Rattle.spec.specs.Answers.{Answer, Answered, Refused, figure_of, bad_set_up}
+use Rattle.spec.specs.Answers.{Answer, Answered, Refused, answer_of, bad_set_up}
 use Rattle.spec.specs.Image.{no_versions, empty}
 use Rattle.spec.specs.Run.{Call, Result, perform, step}
-use Rattle.spec.specs.Bytes.{store_of, After, after_of, on_bytes, limit_of, accepts, set_up, Memory, memory_of}
+use Rattle.spec.specs.Bytes.{store_of, After, after_of, on_bytes, limit_of, accepts, set_up, Memory, memory_of, SetsUp}
 use Rattle.spec.specs.Text.{form_of, free_text, answer_text, refused_text, line_text}
 use Rattle.spec.specs.Session.{front, behind, result_text, said, set_up_said, set_up_response, response, answer_to}
 use Rattle.printing.specs.Inner.{Put}
@@ -33,14 +31,6 @@ front_take n r b f =
 front_drop : (n r : ℕ) (b : List ℕ) → Front n (length b) r → drop r b ≡ drop n b
 front_drop n r b f =
     ⊎_elim (λ e. ap (λ (m : ℕ). drop m b) e) (λ e. ap (λ (m : ℕ). drop m b) e.0 ∙ drop-length b ∙ sym (drop_of_length-le b e.1)) f
-
--- the version table that a set-up leaves in the place of v: a new one where it is answered, and v where it is refused
-abbrev pub versions_of : List ℕ → FigureAnswer → List ℕ
-versions_of v (figure.Answered n) = no_versions
-versions_of v (figure.Refused r) = v
-
-pub versions_made : (v : List ℕ) (a : FigureAnswer) {n : ℕ} → a ≡ figure.Answered n → no_versions ≡ versions_of v a
-versions_made v a e = rw e
 
 module _ (store : Store) (b b₂ v : List ℕ) (out out' : List ℕ) (at used : ℕ) where
   -- the answer to a call: x and y are what it leaves of the fronts, d and c bytes long, and v' is the version table that it leaves
@@ -82,37 +72,36 @@ module _ (store : Store) (b b₂ v : List ℕ) (out out' : List ℕ) (at used : 
           absurd (omega arith)
       go false q = (ap (λ (o : After ℕ). o.memory.data_bytes) q, ap (λ (o : After ℕ). o.memory.commit_bytes) q)
 
-  -- "a refused set-up keeps the old one"
-  abbrev pub kept_of : Store → FigureAnswer → Store
-  kept_of new (figure.Answered n) = new
-  kept_of new (figure.Refused r) = store
-
-  set_up_lem : (form : Form) (r first limit d c : ℕ) (s : Store) (x y d' c' : List ℕ) (a : FigureAnswer)
+  -- an answered set-up leaves a new record s and a new version table
+  pub set_up_made : (form : Form) (r first limit d c : ℕ) (s : Store) (x y d' c' : List ℕ) (n : ℕ) → r ≤ 1024
       → Front (24 * r) (length b) d → Front (8 * r) (length b₂) c
-      → after_of s x y no_versions (figure_of a) ≡ set_up (take d b) (take c b₂) first limit → d' ≡ x ++ drop d b → c' ≡ y ++ drop c b₂
-      → Put out at (line_text form (answer_text free_text (figure_of a))) out' used → used ≤ at + 90
-      → (o : After ℕ) → after_of s x y no_versions (figure_of a) ≡ o
-      → Spoken (set_up_said form r (memory_of store b b₂ v) o o.answer) (memory_of (kept_of s a) d' c' (versions_of v a)) out at out' used
-  set_up_lem form r first limit d c s x y d' c' (figure.Answered n) fd fc e p q u l o z =
-      subst (λ (o : After ℕ). Spoken (set_up_said form r (memory_of store b b₂ v) o o.answer) (memory_of s d' c' no_versions) out at out' used) z
-      (record { memory = rw (p, q, front_drop (24 * r) d b fd, front_drop (8 * r) c b₂ fc); text = u; room = l })
-  set_up_lem form r first limit d c s x y d' c' (figure.Refused n) fd fc e p q u l o z =
-      let k = left (take d b) (take c b₂) x y no_versions first limit _ s e in
-      subst (λ (o : After ℕ). Spoken (set_up_said form r (memory_of store b b₂ v) o o.answer) (memory_of store d' c' v) out at out' used) z
-      (record { memory = rw (p, q, k.0, k.1, take-append-drop d b, take-append-drop c b₂); text = u; room = l })
-
-  -- s' is the record that is kept, v' the version table
-  pub set_up_spoken : (form : Form) (r first limit d c : ℕ) (s s' : Store) (x y d' c' v' : List ℕ) (a : FigureAnswer) → r ≤ 1024
-      → s' ≡ kept_of s a → v' ≡ versions_of v a
-      → Front (24 * r) (length b) d → Front (8 * r) (length b₂) c
-      → after_of s x y no_versions (figure_of a) ≡ set_up (take d b) (take c b₂) first limit → d' ≡ x ++ drop d b → c' ≡ y ++ drop c b₂
-      → Put out at (line_text form (answer_text free_text (figure_of a))) out' used → used ≤ at + 90
-      → Spoken (set_up_response form r first limit (memory_of store b b₂ v)) (memory_of s' d' c' v') out at out' used
+      → SetsUp (take d b) (take c b₂) first limit (memory_of s x y no_versions) (Answered n) → d' ≡ x ++ drop d b → c' ≡ y ++ drop c b₂
+      → Put out at (line_text form (free_text n)) out' used → used ≤ at + 90
+      → Spoken (set_up_response form r first limit (memory_of store b b₂ v)) (memory_of s d' c' no_versions) out at out' used
   unfolding set_up_response
-  set_up_spoken form r first limit d c s s' x y d' c' v' a h k j fd fc e p q u l =
-      rw (le-ltb 1024 r h, k, j)
-      (set_up_lem form r first limit d c s x y d' c' a fd fc e p q u l (set_up (take (24 * r) b) (take (8 * r) b₂) first limit)
-      (e ∙ rw (front_take (24 * r) d b fd, front_take (8 * r) c b₂ fc)))
+  set_up_made form r first limit d c s x y d' c' n h fd fc e p q u l =
+      rw (le-ltb 1024 r h)
+      (subst
+      (λ (o : After ℕ). Spoken (set_up_said form r (memory_of store b b₂ v) o o.answer) (memory_of s d' c' no_versions) out at out' used)
+      {y = set_up (take (24 * r) b) (take (8 * r) b₂) first limit}
+      (e ∙ rw (front_take (24 * r) d b fd, front_take (8 * r) c b₂ fc))
+      (record { memory = rw (p, q, front_drop (24 * r) d b fd, front_drop (8 * r) c b₂ fc); text = u; room = l }))
+
+  -- "a refused set-up keeps the old one"
+  pub set_up_kept : (form : Form) (r first limit d c : ℕ) (s : Store) (x y d' c' : List ℕ) (n : ℕ) → r ≤ 1024
+      → Front (24 * r) (length b) d → Front (8 * r) (length b₂) c
+      → SetsUp (take d b) (take c b₂) first limit (memory_of s x y no_versions) (Refused n) → d' ≡ x ++ drop d b → c' ≡ y ++ drop c b₂
+      → Put out at (line_text form (refused_text n)) out' used → used ≤ at + 90
+      → Spoken (set_up_response form r first limit (memory_of store b b₂ v)) (memory_of store d' c' v) out at out' used
+  unfolding set_up_response
+  set_up_kept form r first limit d c s x y d' c' n h fd fc e p q u l =
+      let k = left (take d b) (take c b₂) x y no_versions first limit n s e in
+      rw (le-ltb 1024 r h)
+      (subst
+      (λ (o : After ℕ). Spoken (set_up_said form r (memory_of store b b₂ v) o o.answer) (memory_of store d' c' v) out at out' used)
+      {y = set_up (take (24 * r) b) (take (8 * r) b₂) first limit}
+      (e ∙ rw (front_take (24 * r) d b fd, front_take (8 * r) c b₂ fc))
+      (record { memory = rw (p, q, k.0, k.1, take-append-drop d b, take-append-drop c b₂); text = u; room = l }))
 
 -- a line is answered by its form
 pub by_form : (l : List ℕ) (w : Memory) (f g : Form) → f ≡ form_of l → f ≡ g → answer_to l w ≡ response g l w

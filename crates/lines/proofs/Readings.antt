@@ -7,12 +7,10 @@ use mathlib.Core.List.{List, []}
 use native.Mathlib.Omega.{arith}
 use lib.Dec.{leb}
 use lib.ListN.{length, length-take}
-use Rattle.std.specs.Prelude.{if◌then◌else◌}
+use Rattle.std.specs.Prelude.{if◌then◌else◌, None, Some}
 use Rattle.spec.specs.Rows.{row_at, value_of}
 use Rattle.spec.specs.declared.Form.{Form}
-use Rattle.spec.specs.declared.Reading.{Reading}
-use Rattle.spec.specs.declared.Reading.TheVariants.{Value, Unwritten}
-use Rattle.spec.specs.Answers.{Answer, Answered, Refused}
+use Rattle.spec.specs.Answers.{Answer, Answered, Refused, Reading}
 use Rattle.spec.specs.Text.{reading_text, answer_text, line_text}
 use Rattle.spec.specs.Values.{value_read, value_for, value_from}
 
@@ -26,10 +24,10 @@ reading_printed b v form (Refused n) e = refl
 -- a value has no more than sixteen bytes
 pub value_short : (b : List ℕ) (a : Answer Reading) → length (value_from b a) ≤ 16
 unfolding value_from value_read value_of
-value_short b (Answered (Value j)) = go (leb (length b / 24) j)
+value_short b (Answered (Some j)) = go (leb (length b / 24) j)
   where
     go : (t : Bool) → length (if t then [] else value_of (row_at 24 j b)) ≤ 16
     go true = omega arith
     go false = simp length-take (omega arith)
-value_short b (Answered Unwritten) = omega arith
+value_short b (Answered None) = omega arith
 value_short b (Refused n) = omega arith

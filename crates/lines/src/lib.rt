@@ -2,25 +2,16 @@
 #![tactic(auto)]
 
 ghost use Rattle.std.specs.Prelude.{◌≡◌, List, ℕ, ◌+◌, ◌≤◌, length};
-ghost use Rattle.spec.specs.Answers.{read_of};
 ghost use Rattle.spec.specs.Run.{Begin, Read, Write, Advance, Abandon, Trim, Free};
 ghost use Rattle.spec.specs.Text.{value_in};
-ghost use Rattle.spec.specs.Values.{value_from};
+ghost use Rattle.spec.specs.Bytes.{memory_of};
 ghost use Rattle.spec.specs.Session.{said, set_up_response, answer_to};
 ghost use Rattle.printing.specs.Inner.{answer_room};
-ghost use Rattle.record.specs.Inner.{columns, unseen, shared};
-ghost use Rattle.reads.specs.Inner.{read_columns};
-ghost use Rattle.lines.specs.Inner.{Front, Says};
+ghost use Rattle.record.specs.Inner.{SameArrays, store_at};
+ghost use Rattle.lines.specs.Inner.{Front, Speaks};
 
-use record::Head;
-use spec::{CLIENTS, COMMIT_ROW, DATA_ROW, FigureAnswer, Form, ReadAnswer, Reading, Set, VERSIONS};
-
-// The numbers that a line leaves, and where the text ends.
-#[derive(Clone, Copy)]
-pub struct Answered {
-    pub head: Head,
-    pub used: usize,
-}
+use record::Record;
+use spec::{COMMIT_ROW, DATA_ROW, Form, Refusal, VERSIONS};
 
 // How many bytes of a buffer a call is lent: n, or all where the buffer has fewer.
 fn front(n: usize, len: usize) -> usize
@@ -30,17 +21,10 @@ fn front(n: usize, len: usize) -> usize
     if len < n { len } else { n }
 }
 
-// ---- the answer to each form
+// ---- the answer to each form: where the text ends now
 
 fn set_up_said(
-    h: Head,
-    stage: &mut [u32; CLIENTS],
-    number: &mut [u32; CLIENTS],
-    snapshot: &mut [u32; CLIENTS],
-    request: &mut [u32; CLIENTS],
-    commit: &mut [u32; CLIENTS],
-    request_waits: &mut [Set; CLIENTS],
-    commit_waits: &mut [Set; CLIENTS],
+    r: &mut Record,
     count: u32,
     first: u32,
     limit: u32,
@@ -49,10 +33,12 @@ fn set_up_said(
     versions: &mut [u32; VERSIONS],
     out: &mut [u8],
     at: usize,
-) -> Answered
+) -> usize
     requires { at + answer_room ≤ length out.old }
-    ensures { Says (set_up_response (Form.SetUp count first limit) count first limit) h
-        (columns stage number snapshot request commit request_waits commit_waits) rows commits versions out at result }
+    ensures same { SameArrays r.old r.new }
+    ensures says { Speaks (set_up_response (Form.SetUp count first limit) count first limit)
+        (memory_of (store_at r.old) rows.old commits.old versions.old)
+        (memory_of (store_at r.new) rows.new commits.new versions.new) out.old at out.new result }
 {
     let form = Form::SetUp {
         rows: count,
@@ -60,92 +46,44 @@ fn set_up_said(
         limit,
     };
     if 1024 < count {
-        let used = reply::refused_line(out, at, form, 1);
-        return Answered { head: h, used };
+        return reply::free_line(out, at, form, Err(Refusal::BadSetUp));
     }
     let d = front(DATA_ROW * count as usize, rows.len());
     let c = front(COMMIT_ROW * count as usize, commits.len());
-    let done = starts::made(&mut rows[..d], &mut commits[..c], first, limit);
-    let answer = done.answer;
-    let used = reply::free_line(out, at, form, answer);
-    match answer {
-        FigureAnswer::Answered(_) => {
-            record::zeroed(
-                stage,
-                number,
-                snapshot,
-                request,
-                commit,
-                request_waits,
-                commit_waits,
-            );
+    let made = starts::made(&mut rows[..d], &mut commits[..c], first, limit);
+    match made {
+        Ok(head) => {
+            r.head = head;
+            record::zero(r);
             *versions = [0; VERSIONS];
-            let next = done.head;
-            Answered { head: next, used }
+            reply::free_line(out, at, form, Ok(head.rows))
         }
-        FigureAnswer::Refused(_) => Answered { head: h, used },
+        Err(why) => reply::free_line(out, at, form, Err(why)),
     }
 }
 
 fn begin_said(
-    h: Head,
-    stage: &mut [u32; CLIENTS],
-    number: &mut [u32; CLIENTS],
-    snapshot: &mut [u32; CLIENTS],
-    request: &mut [u32; CLIENTS],
-    commit: &mut [u32; CLIENTS],
-    request_waits: &mut [Set; CLIENTS],
-    commit_waits: &mut [Set; CLIENTS],
+    r: &mut Record,
     client: u32,
     rows: &[u8],
     commits: &[u8],
     out: &mut [u8],
     at: usize,
-) -> Answered
+) -> usize
     requires { at + answer_room ≤ length out.old }
-    ensures { (v : List ℕ) → Says (said (Form.Begin client) (Begin client)) h
-        (columns stage number snapshot request commit request_waits commit_waits) (shared rows) (shared commits) (unseen v)
-        out at result }
+    ensures same { SameArrays r.old r.new }
+    ensures says { (v : List ℕ) → Speaks (said (Form.Begin client) (Begin client))
+        (memory_of (store_at r.old) rows.now commits.now v)
+        (memory_of (store_at r.new) rows.now commits.now v) out.old at out.new result }
 {
-    let d = front(DATA_ROW * h.rows as usize, rows.len());
-    let c = front(COMMIT_ROW * h.rows as usize, commits.len());
-    let done = begins::begin(
-        h,
-        stage,
-        number,
-        snapshot,
-        request,
-        commit,
-        request_waits,
-        commit_waits,
-        &rows[..d],
-        &commits[..c],
-        client,
-    );
-    let answer = done.answer;
-    let used = reply::begun_line(out, at, Form::Begin(client), answer);
-    let next = done.head;
-    Answered { head: next, used }
-}
-
-// The sixteen bytes that a read's answer names, none for any other answer.
-fn value_read<'a>(rows: &'a [u8], answer: ReadAnswer) -> &'a [u8]
-    ensures { result.now ≡ value_from rows.now (read_of answer) }
-{
-    match answer {
-        ReadAnswer::Answered(reading) => match reading {
-            Reading::Value(at) => reads::value(rows, at),
-            Reading::Unwritten => &rows[0..0],
-        },
-        ReadAnswer::Refused(_) => &rows[0..0],
-    }
+    let d = front(DATA_ROW * r.head.rows as usize, rows.len());
+    let c = front(COMMIT_ROW * r.head.rows as usize, commits.len());
+    let answer = begins::begin(r, &rows[..d], &commits[..c], client);
+    reply::begun_line(out, at, Form::Begin(client), answer)
 }
 
 fn read_said(
-    h: Head,
-    stage: &[u32; CLIENTS],
-    number: &[u32; CLIENTS],
-    snapshot: &[u32; CLIENTS],
+    r: &Record,
     client: u32,
     cell: u32,
     rows: &[u8],
@@ -153,35 +91,32 @@ fn read_said(
     versions: &mut [u32; VERSIONS],
     out: &mut [u8],
     at: usize,
-) -> Answered
+) -> usize
     requires { at + answer_room ≤ length out.old }
-    ensures { (q m b w : List ℕ) → Says (said (Form.Read client cell) (Read client cell)) h
-        (read_columns stage number snapshot q m b w) (shared rows) (shared commits) versions
-        out at result }
+    ensures { Speaks (said (Form.Read client cell) (Read client cell))
+        (memory_of (store_at r.now) rows.now commits.now versions.old)
+        (memory_of (store_at r.now) rows.now commits.now versions.new) out.old at out.new result }
 {
-    let d = front(DATA_ROW * h.rows as usize, rows.len());
-    let c = front(COMMIT_ROW * h.rows as usize, commits.len());
+    let d = front(DATA_ROW * r.head.rows as usize, rows.len());
+    let c = front(COMMIT_ROW * r.head.rows as usize, commits.len());
     let answer = reads::read(
-        h,
-        stage,
-        number,
-        snapshot,
+        r.head,
+        r.stage,
+        r.number,
+        r.snapshot,
         &rows[..d],
         &commits[..c],
         versions,
         client,
         cell,
     );
-    let value = value_read(rows, answer);
-    let used = reply::reading_line(out, at, Form::Read(client, cell), answer, value);
-    Answered { head: h, used }
+    let value = reads::value_named(rows, answer);
+    reply::reading_line(out, at, Form::Read(client, cell), answer, value)
 }
 
 // place is that of the value's digits in the line.
 fn write_said(
-    h: Head,
-    stage: &[u32; CLIENTS],
-    number: &[u32; CLIENTS],
+    r: &mut Record,
     client: u32,
     cell: u32,
     line: &[u8],
@@ -190,280 +125,146 @@ fn write_said(
     commits: &[u8],
     out: &mut [u8],
     at: usize,
-) -> Answered
+) -> usize
     requires { at + answer_room ≤ length out.old }
-    ensures { (s q m b w v : List ℕ) → Says
-        (said (Form.Write client cell place) (Write client cell (value_in line.now place))) h
-        (columns (shared stage) (shared number) (unseen s) (unseen q) (unseen m) (unseen b) (unseen w)) rows (shared commits) (unseen v)
-        out at result }
+    ensures same { SameArrays r.old r.new }
+    ensures says { (v : List ℕ) → Speaks (said (Form.Write client cell place) (Write client cell (value_in line.now place)))
+        (memory_of (store_at r.old) rows.old commits.now v)
+        (memory_of (store_at r.new) rows.new commits.now v) out.old at out.new result }
 {
-    let d = front(DATA_ROW * h.rows as usize, rows.len());
-    let c = front(COMMIT_ROW * h.rows as usize, commits.len());
+    let d = front(DATA_ROW * r.head.rows as usize, rows.len());
+    let c = front(COMMIT_ROW * r.head.rows as usize, commits.len());
     let value = text::value_in(line, place);
-    let done = writes::write(
-        h,
-        stage,
-        number,
+    let answer = writes::write(
+        &mut r.head,
+        r.stage,
+        r.number,
         &mut rows[..d],
         &commits[..c],
         client,
         cell,
         &value,
     );
-    let answer = done.answer;
-    let used = reply::free_line(
-        out,
-        at,
-        Form::Write {
-            client,
-            cell,
-            value: place,
-        },
-        answer,
-    );
-    let next = done.head;
-    Answered { head: next, used }
+    let form = Form::Write {
+        client,
+        cell,
+        value: place,
+    };
+    reply::free_line(out, at, form, answer)
 }
 
 fn advance_said(
-    h: Head,
-    stage: &mut [u32; CLIENTS],
-    number: &mut [u32; CLIENTS],
-    snapshot: &mut [u32; CLIENTS],
-    request: &mut [u32; CLIENTS],
-    commit: &mut [u32; CLIENTS],
-    request_waits: &mut [Set; CLIENTS],
-    commit_waits: &mut [Set; CLIENTS],
+    r: &mut Record,
     client: u32,
     rows: &mut [u8],
     commits: &mut [u8],
     out: &mut [u8],
     at: usize,
-) -> Answered
+) -> usize
     requires { at + answer_room ≤ length out.old }
-    ensures { (v : List ℕ) → Says (said (Form.Advance client) (Advance client)) h
-        (columns stage number snapshot request commit request_waits commit_waits) rows commits (unseen v)
-        out at result }
+    ensures same { SameArrays r.old r.new }
+    ensures says { (v : List ℕ) → Speaks (said (Form.Advance client) (Advance client))
+        (memory_of (store_at r.old) rows.old commits.old v)
+        (memory_of (store_at r.new) rows.new commits.new v) out.old at out.new result }
 {
-    let d = front(DATA_ROW * h.rows as usize, rows.len());
-    let c = front(COMMIT_ROW * h.rows as usize, commits.len());
-    let done = advances::advance(
-        h,
-        stage,
-        number,
-        snapshot,
-        request,
-        commit,
-        request_waits,
-        commit_waits,
-        &mut rows[..d],
-        &mut commits[..c],
-        client,
-    );
-    let answer = done.answer;
-    let used = reply::progress_line(out, at, Form::Advance(client), answer);
-    let next = done.head;
-    Answered { head: next, used }
+    let d = front(DATA_ROW * r.head.rows as usize, rows.len());
+    let c = front(COMMIT_ROW * r.head.rows as usize, commits.len());
+    let answer = advances::advance(r, &mut rows[..d], &mut commits[..c], client);
+    reply::progress_line(out, at, Form::Advance(client), answer)
 }
 
 fn abandon_said(
-    h: Head,
-    stage: &mut [u32; CLIENTS],
-    number: &mut [u32; CLIENTS],
-    snapshot: &mut [u32; CLIENTS],
-    request: &mut [u32; CLIENTS],
-    commit: &mut [u32; CLIENTS],
-    request_waits: &mut [Set; CLIENTS],
-    commit_waits: &mut [Set; CLIENTS],
+    r: &mut Record,
     client: u32,
     rows: &mut [u8],
     commits: &[u8],
     out: &mut [u8],
     at: usize,
-) -> Answered
+) -> usize
     requires { at + answer_room ≤ length out.old }
-    ensures { (v : List ℕ) → Says (said (Form.Abandon client) (Abandon client)) h
-        (columns stage number snapshot request commit request_waits commit_waits) rows (shared commits) (unseen v)
-        out at result }
+    ensures same { SameArrays r.old r.new }
+    ensures says { (v : List ℕ) → Speaks (said (Form.Abandon client) (Abandon client))
+        (memory_of (store_at r.old) rows.old commits.now v)
+        (memory_of (store_at r.new) rows.new commits.now v) out.old at out.new result }
 {
-    let d = front(DATA_ROW * h.rows as usize, rows.len());
-    let c = front(COMMIT_ROW * h.rows as usize, commits.len());
-    let done = abandons::abandon(
-        h,
-        stage,
-        number,
-        snapshot,
-        request,
-        commit,
-        request_waits,
-        commit_waits,
-        &mut rows[..d],
-        &commits[..c],
-        client,
-    );
-    let answer = done.answer;
-    let used = reply::free_line(out, at, Form::Abandon(client), answer);
-    let next = done.head;
-    Answered { head: next, used }
+    let d = front(DATA_ROW * r.head.rows as usize, rows.len());
+    let c = front(COMMIT_ROW * r.head.rows as usize, commits.len());
+    let answer = abandons::abandon(r, &mut rows[..d], &commits[..c], client);
+    reply::free_line(out, at, Form::Abandon(client), answer)
 }
 
 fn trim_said(
-    h: Head,
-    stage: &[u32; CLIENTS],
-    number: &[u32; CLIENTS],
-    snapshot: &[u32; CLIENTS],
+    r: &mut Record,
     rows: &mut [u8],
     commits: &mut [u8],
     out: &mut [u8],
     at: usize,
-) -> Answered
+) -> usize
     requires { at + answer_room ≤ length out.old }
-    ensures { (q m b w v : List ℕ) → Says (said Form.Trim Trim) h
-        (columns (shared stage) (shared number) (shared snapshot) (unseen q) (unseen m) (unseen b) (unseen w)) rows commits (unseen v)
-        out at result }
+    ensures same { SameArrays r.old r.new }
+    ensures says { (v : List ℕ) → Speaks (said Form.Trim Trim)
+        (memory_of (store_at r.old) rows.old commits.old v)
+        (memory_of (store_at r.new) rows.new commits.new v) out.old at out.new result }
 {
-    let d = front(DATA_ROW * h.rows as usize, rows.len());
-    let c = front(COMMIT_ROW * h.rows as usize, commits.len());
-    let done = trims::trim(
-        h,
-        stage,
-        number,
-        snapshot,
+    let d = front(DATA_ROW * r.head.rows as usize, rows.len());
+    let c = front(COMMIT_ROW * r.head.rows as usize, commits.len());
+    let answer = trims::trim(
+        &mut r.head,
+        r.stage,
+        r.number,
+        r.snapshot,
         &mut rows[..d],
         &mut commits[..c],
     );
-    let answer = done.answer;
-    let used = reply::dropped_line(out, at, Form::Trim, answer);
-    let next = done.head;
-    Answered { head: next, used }
+    reply::dropped_line(out, at, Form::Trim, answer)
 }
 
-fn free_said(
-    h: Head,
-    stage: &[u32; CLIENTS],
-    rows: &[u8],
-    commits: &[u8],
-    out: &mut [u8],
-    at: usize,
-) -> Answered
+fn free_said(r: &Record, rows: &[u8], commits: &[u8], out: &mut [u8], at: usize) -> usize
     requires { at + answer_room ≤ length out.old }
-    ensures { (n s q m b w v : List ℕ) → Says (said Form.Free Free) h
-        (columns (shared stage) (unseen n) (unseen s) (unseen q) (unseen m) (unseen b) (unseen w)) (shared rows) (shared commits) (unseen v)
-        out at result }
+    ensures { (v : List ℕ) → Speaks (said Form.Free Free)
+        (memory_of (store_at r.now) rows.now commits.now v)
+        (memory_of (store_at r.now) rows.now commits.now v) out.old at out.new result }
 {
-    let d = front(DATA_ROW * h.rows as usize, rows.len());
-    let c = front(COMMIT_ROW * h.rows as usize, commits.len());
-    let answer = reads::free(h, stage, &rows[..d], &commits[..c]);
-    let used = reply::free_line(out, at, Form::Free, answer);
-    Answered { head: h, used }
+    let d = front(DATA_ROW * r.head.rows as usize, rows.len());
+    let c = front(COMMIT_ROW * r.head.rows as usize, commits.len());
+    let answer = reads::free(r.head, r.stage, &rows[..d], &commits[..c]);
+    reply::free_line(out, at, Form::Free, answer)
 }
 
 // ---- the answer to a line
 
 pub fn answer_line(
-    h: Head,
-    stage: &mut [u32; CLIENTS],
-    number: &mut [u32; CLIENTS],
-    snapshot: &mut [u32; CLIENTS],
-    request: &mut [u32; CLIENTS],
-    commit: &mut [u32; CLIENTS],
-    request_waits: &mut [Set; CLIENTS],
-    commit_waits: &mut [Set; CLIENTS],
+    r: &mut Record,
     line: &[u8],
     rows: &mut [u8],
     commits: &mut [u8],
     versions: &mut [u32; VERSIONS],
     out: &mut [u8],
     at: usize,
-) -> Answered
+) -> usize
     requires { at + answer_room ≤ length out.old }
-    ensures { Says (answer_to line.now) h
-        (columns stage number snapshot request commit request_waits commit_waits) rows commits versions out at result }
+    ensures same { SameArrays r.old r.new }
+    ensures says { Speaks (answer_to line.now)
+        (memory_of (store_at r.old) rows.old commits.old versions.old)
+        (memory_of (store_at r.new) rows.new commits.new versions.new) out.old at out.new result }
 {
-    let form = text::form_of(line);
-    match form {
+    match text::form_of(line) {
         Form::SetUp {
             rows: count,
             first,
             limit,
-        } => set_up_said(
-            h,
-            stage,
-            number,
-            snapshot,
-            request,
-            commit,
-            request_waits,
-            commit_waits,
-            count,
-            first,
-            limit,
-            rows,
-            commits,
-            versions,
-            out,
-            at,
-        ),
-        Form::Begin(client) => begin_said(
-            h,
-            stage,
-            number,
-            snapshot,
-            request,
-            commit,
-            request_waits,
-            commit_waits,
-            client,
-            rows,
-            commits,
-            out,
-            at,
-        ),
-        Form::Read(client, cell) => read_said(
-            h, stage, number, snapshot, client, cell, rows, commits, versions, out, at,
-        ),
+        } => set_up_said(r, count, first, limit, rows, commits, versions, out, at),
+        Form::Begin(client) => begin_said(r, client, rows, commits, out, at),
+        Form::Read(client, cell) => read_said(r, client, cell, rows, commits, versions, out, at),
         Form::Write {
             client,
             cell,
             value,
-        } => write_said(
-            h, stage, number, client, cell, line, value, rows, commits, out, at,
-        ),
-        Form::Advance(client) => advance_said(
-            h,
-            stage,
-            number,
-            snapshot,
-            request,
-            commit,
-            request_waits,
-            commit_waits,
-            client,
-            rows,
-            commits,
-            out,
-            at,
-        ),
-        Form::Abandon(client) => abandon_said(
-            h,
-            stage,
-            number,
-            snapshot,
-            request,
-            commit,
-            request_waits,
-            commit_waits,
-            client,
-            rows,
-            commits,
-            out,
-            at,
-        ),
-        Form::Trim => trim_said(h, stage, number, snapshot, rows, commits, out, at),
-        Form::Free => free_said(h, stage, rows, commits, out, at),
-        Form::Other => Answered {
-            head: h,
-            used: reply::refused_line(out, at, Form::Other, 13),
-        },
+        } => write_said(r, client, cell, line, value, rows, commits, out, at),
+        Form::Advance(client) => advance_said(r, client, rows, commits, out, at),
+        Form::Abandon(client) => abandon_said(r, client, rows, commits, out, at),
+        Form::Trim => trim_said(r, rows, commits, out, at),
+        Form::Free => free_said(r, rows, commits, out, at),
+        Form::Other => reply::refused_line(out, at, Form::Other, 13),
     }
 }

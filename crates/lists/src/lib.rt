@@ -1,137 +1,99 @@
-// The steps of Advance with the waiting lists of the two queues: lists made and looked at. A step is lent the columns
-// and the buffer that it sees; its promise speaks of any others.
+// The steps of Advance with the waiting lists of the two queues: lists made and looked at. A step that is lent no buffer
+// promises for any two.
 #![tactic(auto)]
 
-ghost use Rattle.std.specs.Prelude.{◌≡◌, List, ℕ, ◌*◌, ◌≤◌, ◌<◌, length};
+ghost use Rattle.std.specs.Prelude.{List, ℕ, ◌*◌, ◌≤◌, ◌<◌, length};
 ghost use Rattle.spec.specs.Rows.{data_width};
 ghost use Rattle.spec.specs.Set.{clients};
-ghost use Rattle.spec.specs.Steps.{request_queue, commit_queue, list_requests, looked, look_requests, list_commits, look_commits};
-ghost use Rattle.record.specs.Inner.{columns, unseen, shared};
-ghost use Rattle.queues.specs.Inner.{Step};
+ghost use Rattle.spec.specs.Steps.{list_requests, looked, look_requests, list_commits, look_commits};
+ghost use Rattle.record.specs.Inner.{SameArrays, store_at};
+ghost use Rattle.queues.specs.Inner.{Step, StepAlone};
 
-use record::{AdvanceResult, Head};
-use spec::{AdvanceAnswer, CLIENTS, Progress, Queue, Set};
+use record::Record;
+use spec::{Answer, Progress, Queue, Set};
 
 // The request queue: entered at stage 0, the number noted at 2, left at 13.
-fn request_queue() -> Queue
-    ensures { result ≡ request_queue }
-{
-    Queue {
-        first: 1,
-        noted: 3,
-        last: 13,
-    }
-}
+const REQUEST_QUEUE: Queue = Queue {
+    first: 1,
+    noted: 3,
+    last: 13,
+};
 
 // The commit queue: entered at stage 6, the number noted at 8, left at 12.
-fn commit_queue() -> Queue
-    ensures { result ≡ commit_queue }
-{
-    Queue {
-        first: 7,
-        noted: 9,
-        last: 12,
-    }
-}
+const COMMIT_QUEUE: Queue = Queue {
+    first: 7,
+    noted: 9,
+    last: 12,
+};
 
-// 3: list the other queue rows that share a cell, once.
-pub fn list_requests(
-    h: Head,
-    stage: &mut [u32; CLIENTS],
-    number: &[u32; CLIENTS],
-    request_waits: &mut [Set; CLIENTS],
-    rows: &[u8],
-    client: u32,
-) -> AdvanceResult
+// 3: list the other queue rows that share a cell, once. Out of line, its passes keep more of their numbers in registers.
+#[tactic(auto, unfolding(spec::specs::Steps::list_requests, spec::specs::Bytes::decode), using(record::proofs::Ending::ending))]
+#[inline(never)]
+pub fn list_requests(r: &mut Record, rows: &[u8], client: u32) -> Answer<Progress>
     requires client_lt_clients { client < clients }
-    requires used_in_bounds { data_width * h.used ≤ length rows.now }
-    ensures { (s q m w c : List ℕ) → Step (list_requests client) h
-        (columns stage (shared number) (unseen s) (unseen q) (unseen m) request_waits (unseen w))
-        (shared rows) (unseen c) result }
+    requires used_in_bounds { data_width * r.old.head.used ≤ length rows.now }
+    ensures same { SameArrays r.old r.new }
+    ensures does { (c : List ℕ) → Step (list_requests client)
+        (store_at r.old) rows.now c (store_at r.new) rows.now c result }
 {
-    let queue = request_queue();
     let k = client as usize;
-    let own = number[k];
-    let used = h.used as usize;
-    let queued = waiting::others(queue, stage, client);
-    request_waits[k] = search::sharers(rows, used, own, number, queued);
-    queues::go_on(h, stage, client, 4)
+    let own = r.number[k];
+    let used = r.head.used as usize;
+    let queued = waiting::others(REQUEST_QUEUE, r.stage, client);
+    r.request_waits[k] = search::sharers(rows, used, own, r.number, queued);
+    queues::go_on(r, client, 4)
 }
 
 // What a look that leaves a list comes to: the next stage if none is left on it, else how many are.
-fn looked(h: Head, stage: &mut [u32; CLIENTS], client: u32, list: Set, next: u32) -> AdvanceResult
+#[tactic(auto, unfolding(spec::specs::Steps::looked), using(record::proofs::Ending::ending))]
+fn looked(r: &mut Record, client: u32, list: Set, next: u32) -> Answer<Progress>
     requires { client < clients }
-    ensures { (n s q m b w d c : List ℕ) → Step (looked next client list) h
-        (columns stage (unseen n) (unseen s) (unseen q) (unseen m) (unseen b) (unseen w))
-        (unseen d) (unseen c) result }
+    ensures same { SameArrays r.old r.new }
+    ensures does { StepAlone (looked next client list) r.old r.new result }
 {
     if list == 0 {
-        return queues::go_on(h, stage, client, next);
+        return queues::go_on(r, client, next);
     }
-    AdvanceResult {
-        head: h,
-        answer: AdvanceAnswer::Answered(Progress::Waiting(sets::count(list))),
-    }
+    Ok(Progress::Waiting(sets::count(list)))
 }
 
 // 4: look at the request queue.
-pub fn look_requests(
-    h: Head,
-    stage: &mut [u32; CLIENTS],
-    request: &[u32; CLIENTS],
-    request_waits: &mut [Set; CLIENTS],
-    client: u32,
-) -> AdvanceResult
+#[tactic(auto, unfolding(spec::specs::Steps::look_requests, spec::specs::Bytes::decode, spec::specs::Bytes::encode))]
+pub fn look_requests(r: &mut Record, client: u32) -> Answer<Progress>
     requires { client < clients }
-    ensures { (n s m w d c : List ℕ) → Step (look_requests client) h
-        (columns stage (unseen n) (unseen s) (shared request) (unseen m) request_waits (unseen w))
-        (unseen d) (unseen c) result }
+    ensures same { SameArrays r.old r.new }
+    ensures does { StepAlone (look_requests client) r.old r.new result }
 {
-    let queue = request_queue();
     let k = client as usize;
-    let own = request[k];
-    let before = request_waits[k];
-    let list = waiting::look(queue, own, stage, request, before);
-    request_waits[k] = list;
-    looked(h, stage, client, list, 5)
+    let own = r.request[k];
+    let before = r.request_waits[k];
+    let list = waiting::look(REQUEST_QUEUE, own, r.stage, r.request, before);
+    r.request_waits[k] = list;
+    looked(r, client, list, 5)
 }
 
 // 9: list all other commit queue rows, once.
-pub fn list_commits(
-    h: Head,
-    stage: &mut [u32; CLIENTS],
-    commit_waits: &mut [Set; CLIENTS],
-    client: u32,
-) -> AdvanceResult
+#[tactic(auto, unfolding(spec::specs::Steps::list_commits, spec::specs::Bytes::decode), using(record::proofs::Ending::ending))]
+pub fn list_commits(r: &mut Record, client: u32) -> Answer<Progress>
     requires { client < clients }
-    ensures { (n s q m b d c : List ℕ) → Step (list_commits client) h
-        (columns stage (unseen n) (unseen s) (unseen q) (unseen m) (unseen b) commit_waits)
-        (unseen d) (unseen c) result }
+    ensures same { SameArrays r.old r.new }
+    ensures does { StepAlone (list_commits client) r.old r.new result }
 {
-    let queue = commit_queue();
-    let k = client as usize;
-    commit_waits[k] = waiting::others(queue, stage, client);
-    queues::go_on(h, stage, client, 10)
+    r.commit_waits[client as usize] = waiting::others(COMMIT_QUEUE, r.stage, client);
+    queues::go_on(r, client, 10)
 }
 
 // 10: look at the commit queue.
-pub fn look_commits(
-    h: Head,
-    stage: &mut [u32; CLIENTS],
-    commit: &[u32; CLIENTS],
-    commit_waits: &mut [Set; CLIENTS],
-    client: u32,
-) -> AdvanceResult
+#[tactic(auto, unfolding(spec::specs::Steps::look_commits, spec::specs::Bytes::decode, spec::specs::Bytes::encode))]
+pub fn look_commits(r: &mut Record, client: u32) -> Answer<Progress>
     requires { client < clients }
-    ensures { (n s q b d c : List ℕ) → Step (look_commits client) h
-        (columns stage (unseen n) (unseen s) (unseen q) (shared commit) (unseen b) commit_waits)
-        (unseen d) (unseen c) result }
+    ensures same { SameArrays r.old r.new }
+    ensures does { StepAlone (look_commits client) r.old r.new result }
 {
-    let queue = commit_queue();
     let k = client as usize;
-    let own = commit[k];
-    let before = commit_waits[k];
-    let list = waiting::look(queue, own, stage, commit, before);
-    commit_waits[k] = list;
-    looked(h, stage, client, list, 11)
+    let own = r.commit[k];
+    let before = r.commit_waits[k];
+    let list = waiting::look(COMMIT_QUEUE, own, r.stage, r.commit, before);
+    r.commit_waits[k] = list;
+    looked(r, client, list, 11)
 }

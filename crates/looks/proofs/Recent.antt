@@ -10,14 +10,10 @@ use native.Mathlib.Decide.{ℕ_discrete, dec_lt}
 use native.Mathlib.Omega.{arith}
 use lib.Dec.{leb, ltb}
 use borrow.Author.Tests.{lt-ltb, le-ltb, le-leb, lt-leb, ltb-true, ltb-false}
-use Rattle.std.specs.Prelude.{if◌then◌else◌}
+use Rattle.std.specs.Prelude.{if◌then◌else◌, None, Some}
 use Rattle.spec.specs.Rows.{commit_number, commit_tag, row_at, rows_in, rows_from}
-use Rattle.spec.specs.declared.Number.{Number}
-use Rattle.spec.specs.declared.Number.TheVariants.{Some, None}
-use Rattle.spec.specs.declared.Lookup.{Lookup}
-use Rattle.spec.specs.declared.Lookup.TheVariants.{Version, Nothing}
-use Rattle.spec.specs.Numbers.{at_least, up_to}
-use Rattle.spec.specs.Look.{commit_of, least_looked, newer, version_at}
+use Rattle.spec.specs.Numbers.{at_least, up_to, Number}
+use Rattle.spec.specs.Look.{commit_of, least_looked, newer, version_at, Lookup, version}
 use Rattle.spec.proofs.Rows.{rows_start}
 use Rattle.search.specs.Inner.{Next}
 use Rattle.search.proofs.Folds.{to_start, commit_miss, commit_hit, commit_end}
@@ -118,8 +114,8 @@ module _ (m s tag n : ℕ) (c : List ℕ) where
 
 -- a version numbered m or above
 abbrev pub NumberedFrom : ℕ → Lookup → Type 0
-NumberedFrom m (Version i n) = m ≤ n
-NumberedFrom m Nothing = ⊥
+NumberedFrom m (Some f) = m ≤ f.number
+NumberedFrom m None = ⊥
 
 module _ (m k : ℕ) where
   -- a number below m does not count beside such a version
@@ -127,22 +123,22 @@ module _ (m k : ℕ) where
       → newer (version_at k (at_least m number)) best ≡ newer (version_at k number) best
   unfolding at_least newer version_at
   newer_bounded None best h = refl
-  newer_bounded (Some n) (Version i o) h = go (ltb n m) refl
+  newer_bounded (Some n) (Some f) h = go (ltb n m) refl
     where
-      go : (t : Bool) → ltb n m ≡ t → newer (version_at k (if t then None else Some n)) (Version i o) ≡ newer (version_at k (Some n)) (Version i o)
-      go true e = rw (lt-ltb n o (omega (arith, ltb-true n m e)))
+      go : (t : Bool) → ltb n m ≡ t → newer (version_at k (if t then None else Some n)) (Some f) ≡ newer (version_at k (Some n)) (Some f)
+      go true e = rw (lt-ltb n f.number (omega (arith, ltb-true n m e)))
       go false e = refl
-  newer_bounded (Some n) Nothing h = absurd h
+  newer_bounded (Some n) None h = absurd h
 
   pub newer_from : (number : Number) (best : Lookup) → NumberedFrom m best → NumberedFrom m (newer (version_at k number) best)
   unfolding newer version_at
   newer_from None best h = h
-  newer_from (Some n) (Version i o) h = go (ltb n o) refl
+  newer_from (Some n) (Some f) h = go (ltb n f.number) refl
     where
-      go : (t : Bool) → ltb n o ≡ t → NumberedFrom m (if t then Version i o else Version k n)
+      go : (t : Bool) → ltb n f.number ≡ t → NumberedFrom m (if t then Some f else Some (version k n))
       go true e = h
-      go false e = omega (arith, ltb-false n o e)
-  newer_from (Some n) Nothing h = absurd h
+      go false e = omega (arith, ltb-false n f.number e)
+  newer_from (Some n) None h = absurd h
 
 -- beside best, numbers from b on are as good as those from m on
 abbrev pub Serves : ℕ → ℕ → Lookup → Type 0

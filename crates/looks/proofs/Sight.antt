@@ -5,23 +5,19 @@
 -- what a read finds. The last row that counts has nothing behind it (`LastAt`). Where row k is the reader's own, the first own row decides, whatever
 -- stands behind.
 -- Assumes nothing.
+use Rattle.std.specs.Prelude.{None, Some}
 use Prim.Native.Nat.{ℕ, ◌+◌, ◌*◌, ◌≤◌, ◌<◌}
 use mathlib.Core.Path.{◌≡◌, sym, ap, subst, ◌∙◌}
 use mathlib.Core.List.{List}
-use native.Mathlib.Decide.{ℕ_discrete, dec_lt, dec_le}
+use native.Mathlib.Decide.{ℕ_discrete, dec_le}
 use native.Mathlib.Omega.{arith}
 use lib.ListN.{length, get_or}
 use borrow.Author.Tests.{eq-eqb, ne_eqb}
 use Rattle.spec.specs.Rows.{Row, tag_of, cell_of, commit_number, commit_tag, row_at, rows_in, rows_from}
 use Rattle.spec.proofs.Bytes.{number_two}
 use Rattle.spec.proofs.Rows.{field, rows_start, rows_step, rows_end}
-use Rattle.spec.specs.declared.Number.{Number}
-use Rattle.spec.specs.declared.Number.TheVariants.{Some, None}
-use Rattle.spec.specs.declared.Found.TheVariants.{At}
-use Rattle.spec.specs.declared.Lookup.{Lookup}
-use Rattle.spec.specs.declared.Lookup.TheVariants.{Version, Nothing}
-use Rattle.spec.specs.Numbers.{at_least, up_to}
-use Rattle.spec.specs.Look.{commit_of, is_own, find, version_of, version_from, newer, version_at, newest, own_or, least_looked, look_from}
+use Rattle.spec.specs.Numbers.{at_least, up_to, Number}
+use Rattle.spec.specs.Look.{commit_of, is_own, find, version_of, version_from, newer, version_at, newest, own_or, least_looked, look_from, Lookup, version}
 use Rattle.search.proofs.Folds.{own_yes, own_other_tag, own_other_cell, find_hit, find_miss, find_end}
 use Rattle.search.specs.Inner.{Last}
 use Rattle.search.proofs.Passes.{down_to, carry_back}
@@ -41,7 +37,7 @@ module _ (f : Row → Number) (n i : ℕ) (d : List ℕ) where
   unfolding newest
   newest_step h = rw (rows_step 24 n i d h)
 
-  newest_none : n ≤ i → newest f i (rows_from 24 n i d) ≡ Nothing
+  newest_none : n ≤ i → newest f i (rows_from 24 n i d) ≡ None
   unfolding newest
   newest_none h = rw (rows_end 24 n i d h)
 
@@ -63,7 +59,7 @@ pub record Idle (b tag s : ℕ) (cs : List Row) (t : ℕ) : Type 0 where
 
 module _ {m tag cell s n : ℕ} {d : List ℕ} {cs : List Row} where
   -- nothing yet
-  pub seen_none : Seen m tag cell s n d cs n Nothing
+  pub seen_none : Seen m tag cell s n d cs n None
   seen_none =
       record {
         not_own = find_end (is_own tag cell) 24 n n d (omega arith);
@@ -112,7 +108,7 @@ seen_all e {n = n} {d} seen = rw (rows_start 24 n d, seen.not_own, seen.newest_i
 -- ---- the last row that counts
 
 module _ {m tag cell s n : ℕ} {d : List ℕ} {cs : List Row} {at : ℕ} (h : at < n) (e : cell_of (row_at 24 at d) ≡ cell)
-    (seen : Seen m tag cell s n d cs (at + 1) Nothing) where
+    (seen : Seen m tag cell s n d cs (at + 1) None) where
   -- the reader's own
   pub last_own : tag_of (row_at 24 at d) ≡ tag → LastAt m tag cell s n d cs at 0
   last_own own = record { within = h; of_cell = e; behind = seen; other = λ ne. absurd (ne own) }
@@ -122,29 +118,11 @@ module _ {m tag cell s n : ℕ} {d : List ℕ} {cs : List Row} {at : ℕ} (h : a
 
 -- where it is not the reader's own
 pub seen_last : {m tag cell s n : ℕ} {d : List ℕ} {cs : List Row} {at number : ℕ} → LastAt m tag cell s n d cs at number
-    → (tag_of (row_at 24 at d) ≡ tag → ⊥) → Seen m tag cell s n d cs at (Version at number)
+    → (tag_of (row_at 24 at d) ≡ tag → ⊥) → Seen m tag cell s n d cs at (Some (version at number))
 unfolding newer version_at
 seen_last last ne = seen-version last.within last.behind ne last.of_cell (rw (last.other ne))
 
--- what was found
-module _ {m tag cell s n : ℕ} {d : List ℕ} {cs : List Row} {l : Lookup} (last : LastVersion m tag cell s n d cs l) where
-  pub version_at_lem : {at number : ℕ} → l ≡ Version at number → LastAt m tag cell s n d cs at number
-  version_at_lem e = subst (LastVersion m tag cell s n d cs) e last
-
-  pub last_nothing : l ≡ Nothing → Seen m tag cell s n d cs 0 Nothing
-  last_nothing e = subst (LastVersion m tag cell s n d cs) e last
-
 -- ---- passes
-
--- rows are passed by their tags, and then by their cells
-pub passed : {counts : ℕ → Type 0} {d : List ℕ} {cell n m r : ℕ} → Last (λ k. counts (tag_of (row_at 24 k d))) n m
-    → Last (λ k. cell_of (row_at 24 k d) ≡ cell) m r → PassedOver counts d cell n r
-passed {counts} {d} {cell} {n} {m} {r} tags cells =
-    record { end = omega (arith, tags.end, cells.end); misses = λ k l b. go k l b (dec_lt k m); hit = cells.hit }
-  where
-    go : (k : ℕ) → r ≤ k → k < n → Dec (k < m) → counts (tag_of (row_at 24 k d)) → cell_of (row_at 24 k d) ≡ cell → ⊥
-    go k l b (yes a) t e = cells.misses k l a e
-    go k l b (no a) t e = tags.misses k (omega (arith, a)) b t
 
 module _ {m tag cell s n until r : ℕ} {d : List ℕ} {cs : List Row} {best : Lookup} (h : until ≤ n) where
   pub seen_past_cells : Last (λ k. cell_of (row_at 24 k d) ≡ cell) until r → Seen m tag cell s n d cs until best → Seen m tag cell s n d cs r best
@@ -189,7 +167,7 @@ module _ {m tag s entries from : ℕ} {c : List ℕ} (below : NumberedBelow c fr
 
 -- of the rows from i on, however many there are behind row k, the first own one is row `at`
 abbrev pub FirstOwn : ℕ → ℕ → ℕ → List ℕ → ℕ → ℕ → Type 0
-FirstOwn tag cell k d i at = (n : ℕ) → k < n → find (is_own tag cell) i (rows_from 24 n i d) ≡ At at
+FirstOwn tag cell k d i at = (n : ℕ) → k < n → find (is_own tag cell) i (rows_from 24 n i d) ≡ Some at
 
 module _ (tag cell k : ℕ) (d : List ℕ) where
   pub own_first : (i : ℕ) → i ≤ k → tag_of (row_at 24 i d) ≡ tag → cell_of (row_at 24 i d) ≡ cell → FirstOwn tag cell k d i i
@@ -207,6 +185,6 @@ module _ (tag cell k : ℕ) (d : List ℕ) where
   own_past until r at h pass = carry_back (λ j. FirstOwn tag cell k d j at) pass (λ j l ne own. own-not-tag j at (omega arith) own ne)
 
   -- a read finds it, whatever else there is
-  pub own_read : (at : ℕ) → FirstOwn tag cell k d 0 at → (e s n : ℕ) (cs : List Row) → k < n → Version at 0 ≡ look_from e tag cell s (rows_in 24 n d) cs
+  pub own_read : (at : ℕ) → FirstOwn tag cell k d 0 at → (e s n : ℕ) (cs : List Row) → k < n → Some (version at 0) ≡ look_from e tag cell s (rows_in 24 n d) cs
   unfolding look_from own_or
   own_read at own e s n cs l = rw (rows_start 24 n d, own n l)

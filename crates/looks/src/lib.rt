@@ -5,7 +5,7 @@
 // tags above all that the others up to the snapshot and the reader have. No order of the rows is relied on.
 #![tactic(auto)]
 
-ghost use Rattle.std.specs.Prelude.{◌≡◌, List, ℕ, ◌+◌, ◌*◌, ◌≤◌, ◌<◌, length};
+ghost use Rattle.std.specs.Prelude.{◌≡◌, List, ℕ, ◌+◌, ◌*◌, ◌≤◌, ◌<◌, length, Some, None};
 ghost use Rattle.spec.specs.Rows.{data_width, commit_width, data_rows_in, commit_rows_in, Row, row_at};
 ghost use Rattle.spec.specs.Rows.{tag_of, cell_of, commit_number};
 ghost use Rattle.spec.specs.Numbers.{at_least, up_to};
@@ -13,7 +13,7 @@ ghost use Rattle.spec.specs.Look.{commit_of, least_looked, look_from};
 ghost use Rattle.search.specs.Inner.{Next, Last};
 ghost use Rattle.looks.specs.Inner.{PassedOver, LeastTag, MostTag, NumberedBelow, Seen, LastVersion};
 
-use spec::{Lookup, Number};
+use spec::Version;
 
 // ---- passes from the end over the rows before row until: 1 more than the last one that is a hit, 0 where there is
 // none
@@ -26,30 +26,7 @@ fn last_cell(rows: &[u8], until: usize, cell: u32) -> usize
         return 0;
     }
     let short = cell as u16;
-    let mut i = until;
-    while 32 <= i {
-        for j in 0..32 {
-            if rows::short_cell_at(rows, i - 1 - j) == short {
-                return i - j;
-            }
-        }
-        i -= 32;
-    }
-    while 8 <= i {
-        for j in 0..8 {
-            if rows::short_cell_at(rows, i - 1 - j) == short {
-                return i - j;
-            }
-        }
-        i -= 8;
-    }
-    while 0 < i {
-        if rows::short_cell_at(rows, i - 1) == short {
-            return i;
-        }
-        i -= 1;
-    }
-    0
+    search::last_hit(until, |i| rows::short_cell_at(rows, i) == short)
 }
 
 // Rows with tags from least on, and up to most.
@@ -57,44 +34,14 @@ fn last_tag(rows: &[u8], until: usize, least: u32) -> usize
     requires { data_width * until ≤ length rows.now }
     ensures { Last (λ k. least ≤ tag_of (row_at data_width k rows.now)) until result }
 {
-    let mut i = until;
-    while 32 <= i {
-        for j in 0..32 {
-            if least <= rows::tag_at(rows, i - 1 - j) {
-                return i - j;
-            }
-        }
-        i -= 32;
-    }
-    while 0 < i {
-        if least <= rows::tag_at(rows, i - 1) {
-            return i;
-        }
-        i -= 1;
-    }
-    0
+    search::last_hit(until, |i| least <= rows::tag_at(rows, i))
 }
 
 fn last_up_to(rows: &[u8], until: usize, most: u32) -> usize
     requires { data_width * until ≤ length rows.now }
     ensures { Last (λ k. tag_of (row_at data_width k rows.now) ≤ most) until result }
 {
-    let mut i = until;
-    while 32 <= i {
-        for j in 0..32 {
-            if rows::tag_at(rows, i - 1 - j) <= most {
-                return i - j;
-            }
-        }
-        i -= 32;
-    }
-    while 0 < i {
-        if rows::tag_at(rows, i - 1) <= most {
-            return i;
-        }
-        i -= 1;
-    }
-    0
+    search::last_hit(until, |i| rows::tag_at(rows, i) <= most)
 }
 
 // A row of that cell such that all rows from it on to until are of other cells or have tags below least.
@@ -120,23 +67,7 @@ fn next_numbered(commits: &[u8], entries: usize, least: u32) -> usize
     requires { commit_width * entries ≤ length commits.now }
     ensures { Next (λ k. least ≤ commit_number (row_at commit_width k commits.now)) 0 entries result }
 {
-    let turns = entries / 32;
-    for t in 0..turns {
-        for j in 0..32 {
-            let i = 32 * t + j;
-            if least <= rows::commit_number_at(commits, i) {
-                return i;
-            }
-        }
-    }
-    let mut i = 32 * turns;
-    while i < entries {
-        if least <= rows::commit_number_at(commits, i) {
-            return i;
-        }
-        i += 1;
-    }
-    entries
+    search::first_hit::<32, _>(0, entries, |i| least <= rows::commit_number_at(commits, i))
 }
 
 // The smallest of the reader's number and the tags of the committed rows from row from on.
@@ -145,13 +76,8 @@ fn least_tag(commits: &[u8], from: usize, entries: usize, tag: u32) -> u32
     ensures { LeastTag commits.now from entries tag result }
 {
     let mut least = tag;
-    let mut i = from;
-    while i < entries {
-        let other = rows::commit_tag_at(commits, i);
-        if other < least {
-            least = other;
-        }
-        i += 1;
+    for i in from..entries {
+        least = least.min(rows::commit_tag_at(commits, i));
     }
     least
 }
@@ -163,15 +89,10 @@ fn most_tag(commits: &[u8], from: usize, entries: usize, tag: u32, snapshot: u32
     ensures { MostTag commits.now from entries tag snapshot result }
 {
     let mut most = tag;
-    let mut i = from;
-    while i < entries {
+    for i in from..entries {
         if rows::commit_number_at(commits, i) <= snapshot {
-            let other = rows::commit_tag_at(commits, i);
-            if most < other {
-                most = other;
-            }
+            most = most.max(rows::commit_tag_at(commits, i));
         }
-        i += 1;
     }
     most
 }
@@ -185,7 +106,7 @@ fn recent_commit(
     tag: u32,
     least: u32,
     snapshot: u32,
-) -> Number
+) -> Option<u32>
     requires entries_in_bounds { commit_width * entries ≤ length commits.now }
     requires from_le_entries { from ≤ entries }
     requires numbered_below { NumberedBelow commits.now from least }
@@ -194,26 +115,26 @@ fn recent_commit(
 {
     let at = search::next_commit(commits, from, entries, tag);
     if entries <= at {
-        return Number::None;
+        return None;
     }
     let number = rows::commit_number_at(commits, at);
     if number < least {
-        return Number::None;
+        return None;
     }
     if snapshot < number {
-        return Number::None;
+        return None;
     }
     // of several committed rows with one tag the first alone counts
     if search::next_commit(commits, 0, from, tag) < from {
-        return Number::None;
+        return None;
     }
-    Number::Some(number)
+    Some(number)
 }
 
 // ---- Read
 
 // The first of the reader's own rows for the cell, where row k is one.
-fn own_version(rows: &[u8], k: usize, tag: u32, cell: u32) -> Lookup
+fn own_version(rows: &[u8], k: usize, tag: u32, cell: u32) -> Option<Version>
     requires k_in_bounds { data_width * k + 24 ≤ length rows.now }
     requires rows_value { tag_of (row_at data_width k rows.now) ≡ tag }
     requires rows_value_2 { cell_of (row_at data_width k rows.now) ≡ cell }
@@ -228,10 +149,10 @@ fn own_version(rows: &[u8], k: usize, tag: u32, cell: u32) -> Lookup
         }
         i = search::last_tagged(rows, i - 1, tag);
     }
-    Lookup::Version { at, number: 0 }
+    Some(Version { at, number: 0 })
 }
 
-// The rows before row at, where that row under that number is what the rows from it on give.
+// The rows before a version's, where the version is what the rows from it on give.
 fn look_before(
     rows: &[u8],
     used: usize,
@@ -241,25 +162,24 @@ fn look_before(
     cell: u32,
     snapshot: u32,
     entry: u32,
-    at: usize,
-    number: u32,
-) -> Lookup
+    last: Version,
+) -> Option<Version>
     requires used_in_bounds { data_width * used ≤ length rows.now }
     requires entries_in_bounds { commit_width * entries ≤ length commits.now }
-    requires at_le_used { at ≤ used }
-    requires snapshot_bound { least_looked entry snapshot ≤ number }
+    requires at_le_used { last.at ≤ used }
+    requires snapshot_bound { least_looked entry snapshot ≤ last.number }
     requires seen { Seen (least_looked entry snapshot) tag cell snapshot used rows.now
-        (commit_rows_in entries commits.now) at (Lookup.Version at number) }
+        (commit_rows_in entries commits.now) last.at (Some last) }
     ensures { result ≡ look_from entry tag cell snapshot (data_rows_in used rows.now)
         (commit_rows_in entries commits.now) }
 {
-    let near = last_cell(rows, at, cell);
+    let near = last_cell(rows, last.at, cell);
     if near == 0 {
-        return Lookup::Version { at, number };
+        return Some(last);
     }
-    let from = next_numbered(commits, entries, number);
+    let from = next_numbered(commits, entries, last.number);
     let least = least_tag(commits, from, entries, tag);
-    let mut best = Lookup::Version { at, number };
+    let mut best = Some(last);
     let mut i = older(rows, near, least, cell);
     while 0 < i {
         let k = i - 1;
@@ -267,7 +187,7 @@ fn look_before(
         if writer == tag {
             return own_version(rows, k, tag, cell);
         }
-        let found = recent_commit(commits, from, entries, writer, number, snapshot);
+        let found = recent_commit(commits, from, entries, writer, last.number, snapshot);
         best = numbers::newer_of(k, found, best);
         i = older(rows, k, least, cell);
     }
@@ -285,12 +205,12 @@ fn earlier_version(
     snapshot: u32,
     least: u32,
     until: usize,
-) -> Lookup
+) -> Option<Version>
     requires used_in_bounds { data_width * used ≤ length rows.now }
     requires entries_in_bounds { commit_width * entries ≤ length commits.now }
     requires until_le_used { until ≤ used }
     requires seen { Seen least tag cell snapshot used rows.now (commit_rows_in entries commits.now) until
-        Lookup.Nothing }
+        None }
     ensures { LastVersion least tag cell snapshot used rows.now
         (commit_rows_in entries commits.now) result }
 {
@@ -301,18 +221,14 @@ fn earlier_version(
         let k = i - 1;
         let writer = rows::tag_at(rows, k);
         if writer == tag {
-            return Lookup::Version { at: k, number: 0 };
+            return Some(Version { at: k, number: 0 });
         }
-        let found = recent_commit(commits, from, entries, writer, least, snapshot);
-        match found {
-            Number::Some(number) => {
-                return Lookup::Version { at: k, number };
-            }
-            Number::None => {}
+        if let Some(number) = recent_commit(commits, from, entries, writer, least, snapshot) {
+            return Some(Version { at: k, number });
         }
         i = not_newer(rows, k, most, cell);
     }
-    Lookup::Nothing
+    None
 }
 
 // The least number that is looked at.
@@ -332,7 +248,7 @@ fn last_version(
     cell: u32,
     snapshot: u32,
     entry: u32,
-) -> Lookup
+) -> Option<Version>
     requires used_in_bounds { data_width * used ≤ length rows.now }
     requires entries_in_bounds { commit_width * entries ≤ length commits.now }
     ensures { LastVersion (least_looked entry snapshot) tag cell snapshot used rows.now
@@ -343,20 +259,16 @@ fn last_version(
     for _turn in 0u32..2 {
         let i = last_cell(rows, until, cell);
         if i == 0 {
-            return Lookup::Nothing;
+            return None;
         }
         let k = i - 1;
         let writer = rows::tag_at(rows, k);
         if writer == tag {
-            return Lookup::Version { at: k, number: 0 };
+            return Some(Version { at: k, number: 0 });
         }
         let number = search::commit_of(commits, entries, writer);
-        let found = numbers::at_least(least, numbers::up_to(snapshot, number));
-        match found {
-            Number::Some(n) => {
-                return Lookup::Version { at: k, number: n };
-            }
-            Number::None => {}
+        if let Some(n) = numbers::at_least(least, numbers::up_to(snapshot, number)) {
+            return Some(Version { at: k, number: n });
         }
         until = k;
     }
@@ -375,22 +287,17 @@ pub fn look_for(
     cell: u32,
     snapshot: u32,
     entry: u32,
-) -> Lookup
+) -> Option<Version>
     requires used_in_bounds { data_width * used ≤ length rows.now }
     requires entries_in_bounds { commit_width * entries ≤ length commits.now }
     ensures { result ≡ look_from entry tag cell snapshot (data_rows_in used rows.now)
         (commit_rows_in entries commits.now) }
 {
-    let last = last_version(rows, used, commits, entries, tag, cell, snapshot, entry);
-    match last {
-        Lookup::Version { at, number } => {
-            if rows::tag_at(rows, at) == tag {
-                return own_version(rows, at, tag, cell);
-            }
-            look_before(
-                rows, used, commits, entries, tag, cell, snapshot, entry, at, number,
-            )
-        }
-        Lookup::Nothing => Lookup::Nothing,
+    let last = last_version(rows, used, commits, entries, tag, cell, snapshot, entry)?;
+    if rows::tag_at(rows, last.at) == tag {
+        return own_version(rows, last.at, tag, cell);
     }
+    look_before(
+        rows, used, commits, entries, tag, cell, snapshot, entry, last,
+    )
 }

@@ -11,6 +11,7 @@ ghost use Rattle.spec.specs.Marked.{Marks, Worked};
 ghost use Rattle.serving.specs.Inner.{Judged, Used};
 
 use orderly::ENTRY_PLACES;
+use spec::{COMMIT_ROW, DATA_ROW};
 use trimming::Remaining;
 
 // The rows that stay, where the bytes are orderly (false where they are not): committed rows are gone through from
@@ -81,8 +82,8 @@ fn trim_marking(
     if from_newest(
         rows, used, commits, entries, low, marks, &mut flags, &mut uses,
     ) {
-        let left = removal::close_up(rows, 3, used, &flags);
-        let kept = removal::close_up(commits, 1, entries, &uses);
+        let left = removal::close_up::<DATA_ROW>(rows, used, &flags);
+        let kept = removal::close_up::<COMMIT_ROW>(commits, entries, &uses);
         return Remaining {
             rows: left,
             commits: kept,

@@ -5,10 +5,8 @@ use mathlib.Core.Bool.{Bool, true, false}
 use native.Mathlib.Omega.{arith}
 use lib.Dec.{ltb}
 use borrow.Author.Tests.{lt-ltb, le-ltb, ltb-true, ltb-false}
-use Rattle.std.specs.Prelude.{if◌then◌else◌}
-use Rattle.spec.specs.declared.Number.{Number}
-use Rattle.spec.specs.declared.Number.TheVariants.{Some, None}
-use Rattle.spec.specs.Numbers.{lesser}
+use Rattle.std.specs.Prelude.{if◌then◌else◌, None, Some}
+use Rattle.spec.specs.Numbers.{lesser, Number}
 
 pub lesser_assoc : (a b c : Number) → lesser (lesser a b) c ≡ lesser a (lesser b c)
 unfolding lesser

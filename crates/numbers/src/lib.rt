@@ -5,80 +5,52 @@ ghost use Rattle.std.specs.Prelude.{◌≡◌};
 ghost use Rattle.spec.specs.Numbers.{lesser, above, at_least, up_to};
 ghost use Rattle.spec.specs.Look.{newer, version_at};
 
-use spec::{Lookup, Number};
+use spec::Version;
 
 // The number, if it is not above the snapshot.
-pub fn up_to(snapshot: u32, number: Number) -> Number
+#[tactic(auto, unfolding(spec::specs::Numbers::up_to))]
+pub fn up_to(snapshot: u32, number: Option<u32>) -> Option<u32>
     ensures { result ≡ up_to snapshot number }
 {
-    match number {
-        Number::Some(n) => { if n <= snapshot { number } else { Number::None } }
-        Number::None => Number::None,
-    }
+    number.filter(|n| *n <= snapshot)
 }
 
 // The number, if it is at least m.
-pub fn at_least(m: u32, number: Number) -> Number
+#[tactic(auto, unfolding(spec::specs::Numbers::at_least))]
+pub fn at_least(m: u32, number: Option<u32>) -> Option<u32>
     ensures { result ≡ at_least m number }
 {
-    match number {
-        Number::Some(n) => { if n < m { Number::None } else { number } }
-        Number::None => Number::None,
-    }
-}
-
-// The newer of row i under the number n and what the rows behind it give; the first of equals.
-fn newer_version(i: usize, n: u32, best: Lookup) -> Lookup
-    ensures { result ≡ newer (Lookup.Version i n) best }
-{
-    match best {
-        Lookup::Version { at: _, number } => {
-            if n < number {
-                best
-            } else {
-                Lookup::Version { at: i, number: n }
-            }
-        }
-        Lookup::Nothing => Lookup::Version { at: i, number: n },
-    }
-}
-
-// The same, under a number that may be missing.
-pub fn newer_of(i: usize, number: Number, best: Lookup) -> Lookup
-    ensures { result ≡ newer (version_at i number) best }
-{
-    match number {
-        Number::Some(n) => newer_version(i, n, best),
-        Number::None => best,
-    }
+    number.filter(|n| m <= *n)
 }
 
 // The number, if it is above the snapshot.
-pub fn above_of(snapshot: u32, number: Number) -> Number
+#[tactic(auto, unfolding(spec::specs::Numbers::above))]
+pub fn above_of(snapshot: u32, number: Option<u32>) -> Option<u32>
     ensures { result ≡ above snapshot number }
 {
-    match number {
-        Number::Some(n) => { if snapshot < n { number } else { Number::None } }
-        Number::None => Number::None,
-    }
+    number.filter(|n| snapshot < *n)
 }
 
-// The smaller of a number and one that may be missing.
-fn lesser_than(m: u32, other: Number) -> Number
-    ensures { result ≡ lesser (Number.Some m) other }
+// The newer of a row under a number that may be missing and what the rows behind it give; the first of equals.
+#[tactic(auto, unfolding(spec::specs::Look::newer, spec::specs::Look::version_at))]
+pub fn newer_of(at: usize, number: Option<u32>, best: Option<Version>) -> Option<Version>
+    ensures { result ≡ newer (version_at at number) best }
 {
-    match other {
-        Number::Some(n) => { if n < m { other } else { Number::Some(m) } }
-        Number::None => Number::Some(m),
+    match (number, best) {
+        (None, _) => best,
+        (Some(n), Some(other)) if n < other.number => best,
+        (Some(n), _) => Some(Version { at, number: n }),
     }
 }
 
 // The smaller of two numbers that may be missing.
-pub fn lesser_of(a: Number, b: Number) -> Number
+#[tactic(auto, unfolding(spec::specs::Numbers::lesser))]
+pub fn lesser_of(a: Option<u32>, b: Option<u32>) -> Option<u32>
     ensures { result ≡ lesser a b }
 {
-    match a {
-        Number::Some(m) => lesser_than(m, b),
-        Number::None => b,
+    match (a, b) {
+        (Some(m), Some(n)) => Some(m.min(n)),
+        (Some(_), None) => a,
+        (None, _) => b,
     }
 }

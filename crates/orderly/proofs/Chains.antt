@@ -42,21 +42,6 @@ module _ (key : ℕ → ℕ) (n : ℕ) where
       next j g f r (yes q) = rw (q, get_or-set_same nexts k (get_or heads x 0) 0 (omega (arith, l.room)), e) (l.head x a)
       next j g f r (no q) = rw (get_or-set_other nexts k j (get_or heads x 0) 0 q) (l.next j (omega (arith, q)) f r)
 
-  -- a row that has no place is not linked
-  pub linked_less : {p : ℕ} (heads nexts : List ℕ) (k : ℕ) → p ≤ key k → Linked p key n (k + 1) heads nexts → Linked p key n k heads nexts
-  linked_less {p} heads nexts k b l =
-      record {
-        size = l.size;
-        room = l.room;
-        head = λ x g. next_past k (get_or heads x 0) (λ e. omega (arith, e))
-            (l.head x g);
-        next = λ j g f r. next j g f r (ℕ_discrete j k);
-      }
-    where
-      next : (j : ℕ) → k ≤ j → j < n → key j < p → Dec (j ≡ k) → Next (λ i. key i ≡ key j) (j + 1) n (get_or nexts j 0)
-      next j g f r (yes q) = absurd (omega (arith, rw q at r))
-      next j g f r (no q) = l.next j (omega (arith, q)) f r
-
   module _ (nexts : List ℕ) where
     pub chain-start : {p : ℕ} (heads : List ℕ) (x i : ℕ) → x < p → Linked p key n i heads nexts → Chain key n nexts x (get_or heads x 0)
     chain-start heads x i h l =

@@ -5,14 +5,13 @@ use Prim.Native.Nat.{ℕ, ◌+◌, ◌≤◌, ◌<◌}
 use mathlib.Core.Path.{◌≡◌, sym, ◌∙◌}
 use mathlib.Core.List.{List}
 use lib.ListN.{length, get_or, replicate}
-use native.Mathlib.Decide.{dec_lt, ℕ_discrete}
+use native.Mathlib.Decide.{ℕ_discrete}
 use native.Mathlib.Omega.{arith}
-use borrow.Author.Tests.{eq-eqb, ne_eqb}
+use borrow.Author.Tests.{eq-eqb}
 use Rattle.spec.specs.Rows.{row_at, tag_of, cell_of}
-use Rattle.search.specs.Inner.{Next}
 use Rattle.places.specs.Inner.{place}
 use Rattle.orderly.specs.Inner.{pair_place, open_place, Linked, Alike, Sole}
-use Rattle.orderly.proofs.Chains.{linked_none, linked_less, chain-start}
+use Rattle.orderly.proofs.Chains.{linked_none, chain-start}
 use Rattle.orderly.proofs.Single.{RowWalk}
 
 -- from row i on the rows that are not committed are plain, and linked
@@ -34,21 +33,9 @@ module _ (n : ℕ) (s flags : List ℕ) where
   pub tested_none : (nexts : List ℕ) → length nexts ≡ 1024 → Tested n s flags (replicate 1024 n) nexts n
   tested_none nexts e = record { end = omega arith; linked = linked_none (open_place flags s) n 1024 nexts e; plain = λ k a b. absurd (omega arith) }
 
-  -- all are tested from the first one on
-  pub tested_all : (heads nexts : List ℕ) (i first : ℕ) → i ≤ first → Tested n s flags heads nexts i → Next (λ k. get_or flags k 0 ≡ 1) 0 n first
-      → (k : ℕ) → k < n → get_or flags k 0 ≡ 1 → Sole n s k
-  tested_all heads nexts i first l t p k h e = go (dec_lt k first)
-    where
-      go : Dec (k < first) → Sole n s k
-      go (yes b) = absurd (p.misses k (omega arith) b e)
-      go (no b) = t.plain k (omega (arith, b)) h e
-
   -- the place of a row that is not committed
   open_place_lem : (k : ℕ) → get_or flags k 0 ≡ 1 → open_place flags s k ≡ pair_place (place (tag_of (row_at 24 k s))) (cell_of (row_at 24 k s))
   open_place_lem k e = rw (eq-eqb (get_or flags k 0) 1 e)
-
-  no_place : (k : ℕ) → (get_or flags k 0 ≡ 1 → ⊥) → 1024 ≤ open_place flags s k
-  no_place k ne = rw (ne_eqb (get_or flags k 0) 1 ne) (omega arith)
 
   module _ (heads nexts : List ℕ) (k : ℕ) (t : Tested n s flags heads nexts (k + 1)) where
     plain-too : (get_or flags k 0 ≡ 1 → Sole n s k) → (j : ℕ) → k ≤ j → j < n → get_or flags j 0 ≡ 1 → Sole n s j
@@ -57,15 +44,6 @@ module _ (n : ℕ) (s flags : List ℕ) where
         go : Dec (j ≡ k) → Sole n s j
         go (yes q) = rw q (p (rw q at e))
         go (no q) = t.plain j (omega (arith, q)) b e
-
-    -- a committed row
-    pub tested-past : (get_or flags k 0 ≡ 1 → ⊥) → Tested n s flags heads nexts k
-    tested-past ne =
-        record {
-          end = omega (arith, t.end);
-          linked = linked_less (open_place flags s) n heads nexts k (no_place k ne) t.linked;
-          plain = plain-too (λ e. absurd (ne e));
-        }
 
     pub tested-more : (heads' nexts' : List ℕ) → Linked 1024 (open_place flags s) n k heads' nexts' → Sole n s k → Tested n s flags heads' nexts' k
     tested-more heads' nexts' l p = record { end = omega (arith, t.end); linked = l; plain = plain-too (λ e. p) }

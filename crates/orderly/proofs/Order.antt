@@ -8,12 +8,11 @@ use lib.Dec.{ltb, leb}
 use native.Mathlib.Omega.{arith}
 use native.Mathlib.Decide.{dec_lt}
 use borrow.Author.Tests.{ltb-true, eqb-true, le-leb, lt-leb, eq-eqb}
-use Rattle.std.specs.Prelude.{if◌then◌else◌}
+use Rattle.std.specs.Prelude.{if◌then◌else◌, None, Some}
 use Rattle.spec.specs.Rows.{Row, row_at, rows_in, rows_from, tag_of, cell_of, commit_tag, commit_number}
 use Rattle.spec.proofs.Rows.{rows_start, rows_step, rows_end}
 use Rattle.spec.specs.Look.{commit_of}
 use Rattle.spec.specs.Share.{any, wrote}
-use Rattle.spec.specs.declared.Number.TheVariants.{Some, None}
 use Rattle.search.proofs.Folds.{if_same, any_step, any_end, any_at, commit_first, commit_none}
 use Rattle.spec.specs.Orderly.{under, is_commit_of, orderly_commits, orderly_rows, orderly}
 

@@ -4,10 +4,9 @@ use Prim.Native.Nat.{ℕ, ◌<◌}
 use mathlib.Core.Path.{◌≡◌, ◌∙◌}
 use mathlib.Core.List.{List}
 use lib.ListN.{get_or}
-use native.Mathlib.Omega.{arith}
 use borrow.Author.Count.{below_more}
 use Rattle.spec.specs.Rows.{row_at, tag_of, cell_of}
-use Rattle.orderly.specs.Inner.{Chain, Walk, TagWalk, Sole}
+use Rattle.orderly.specs.Inner.{Chain, TagWalk, Sole}
 use Rattle.orderly.proofs.Chains.{chain_next, chain_more, chain_carry}
 use Rattle.orderly.proofs.Single.{RowWalk}
 
@@ -17,9 +16,6 @@ pub record Walked (key : ℕ → ℕ) (x n : ℕ) (s follows : List ℕ) (i : �
   pub plain : (k : ℕ) → k < i → key k ≡ x → Sole n s k
 
 module _ {key : ℕ → ℕ} {x n : ℕ} {s follows : List ℕ} where
-  pub walked_start : {first : ℕ} → Walk key x n follows first → Walked key x n s follows first
-  walked_start w = record { chain = w.chain; plain = λ k h e. absurd (w.start.misses k (omega arith) h e) }
-
   module _ {i : ℕ} (h : i < n) (w : Walked key x n s follows i) where
     pub walked_more : Sole n s i → Walked key x n s follows (get_or follows i 0)
     walked_more p =

@@ -18,6 +18,7 @@ pub const ENTRY_PLACES: usize = 1040;
 // ---- chains: from each place, the rows whose key has that place, in their order
 
 // The place of a tag and a cell together, by the tag's place.
+#[tactic(auto, unfolding(crate::specs::Inner::pair_place))]
 fn pair_place(x: usize, cell: u32) -> usize
     requires { x < 4096 }
     ensures { (result ≡ pair_place x cell) × (result < 1024) }
@@ -79,9 +80,7 @@ fn commits_orderly(
         → Linked 4096 (tag_place commits.now) entries 0 heads.new nexts.new }
 {
     let mut above = 4294967296;
-    let mut i = entries;
-    while 0 < i {
-        let k = i - 1;
+    for k in (0..entries).rev() {
         let number = rows::commit_number_at(commits, k) as u64;
         if above <= number {
             return false;
@@ -93,7 +92,6 @@ fn commits_orderly(
         }
         link(heads, nexts, x, k);
         above = number;
-        i = k;
     }
     true
 }
@@ -162,14 +160,11 @@ fn link_rows(
 {
     let mut last = 0;
     let mut at = entry_of(commits, entries, heads, nexts, 0);
-    let mut i = from;
-    while 0 < i {
-        let k = i - 1;
+    for k in (0..from).rev() {
         let tag = rows::tag_at(rows, k);
         at = entry_again(commits, entries, heads, nexts, last, at, tag);
         last = tag;
         link(firsts, follows, at, k);
-        i = k;
     }
 }
 
@@ -181,10 +176,8 @@ fn rises(commits: &[u8], k: usize) -> bool
     requires { commit_width * (k + 1) + 8 ≤ length commits.now }
     ensures { result ≡ true → Rises commits.now k }
 {
-    if rows::commit_number_at(commits, k + 1) <= rows::commit_number_at(commits, k) {
-        return false;
-    }
-    rows::commit_tag_at(commits, k) < rows::commit_tag_at(commits, k + 1)
+    rows::commit_number_at(commits, k) < rows::commit_number_at(commits, k + 1)
+        && rows::commit_tag_at(commits, k) < rows::commit_tag_at(commits, k + 1)
 }
 
 // Whether numbers and tags rise from each committed row to the next; two rows a turn.
@@ -195,10 +188,7 @@ fn both_rise(commits: &[u8], entries: usize) -> bool
 {
     let mut i = 0;
     while i + 2 < entries {
-        if !rises(commits, i) {
-            return false;
-        }
-        if !rises(commits, i + 1) {
+        if !rises(commits, i) || !rises(commits, i + 1) {
             return false;
         }
         i += 2;
@@ -215,10 +205,7 @@ fn is_below(commits: &[u8], entries: usize, at: usize, tag: u32) -> bool
     requires at_le_entries { at ≤ entries }
     ensures { result ≡ true → IsBelow commits.now at tag }
 {
-    if at == 0 {
-        return false;
-    }
-    rows::commit_tag_at(commits, at - 1) == tag
+    0 < at && rows::commit_tag_at(commits, at - 1) == tag
 }
 
 // The committed row of a tag that is above that of the row before row at: row at, or none (entries) where its tag is
@@ -273,27 +260,24 @@ fn link_in_order(
     let mut at = entries;
     let mut run = entries;
     let mut last = 4294967296;
-    let mut i = used;
-    while 0 < i {
-        let k = i - 1;
+    for k in (0..used).rev() {
         let tag = rows::tag_at(rows, k);
         if tag as u64 == last {
-            follows[k] = i as u16;
+            follows[k] = (k + 1) as u16;
         } else {
-            firsts[run] = i as u16;
+            firsts[run] = (k + 1) as u16;
             if is_below(commits, entries, at, tag) {
                 at -= 1;
                 run = at;
             } else {
                 run = near(commits, entries, at, tag);
                 if entries < run {
-                    return i;
+                    return k + 1;
                 }
             }
             follows[k] = firsts[run];
             last = tag as u64;
         }
-        i = k;
     }
     firsts[run] = 0;
     0
@@ -356,10 +340,8 @@ fn own_chained(
 {
     let mut i = from;
     while i < used {
-        if rows::tag_at(rows, i) == tag {
-            if rows::cell_at(rows, i) == cell {
-                return true;
-            }
+        if rows::tag_at(rows, i) == tag && rows::cell_at(rows, i) == cell {
+            return true;
         }
         i = nexts[i] as usize;
     }
@@ -378,9 +360,7 @@ fn open_plain(rows: &[u8], used: usize, flags: &[u8; 1024], first: usize) -> boo
     let none = used as u16;
     let mut heads = [none; 1024];
     let mut nexts = [0u16; 1024];
-    let mut i = used;
-    while first < i {
-        let k = i - 1;
+    for k in (first..used).rev() {
         if flags[k] == 1 {
             let cell = rows::cell_at(rows, k);
             if 1024 <= cell {
@@ -394,7 +374,6 @@ fn open_plain(rows: &[u8], used: usize, flags: &[u8; 1024], first: usize) -> boo
             }
             link(&mut heads, &mut nexts, y, k);
         }
-        i = k;
     }
     true
 }
@@ -420,17 +399,14 @@ fn is_short(used: usize, follows: &[u16; 1024], first: usize) -> bool
     requires used_bound { used ≤ 1024 }
     requires follows_len { length follows.now ≡ 1024 }
 {
-    let mut left = 8usize;
     let mut i = first;
-    while i < used {
-        if left == 0 {
-            return false;
+    for _row in 0u32..8 {
+        if used <= i {
+            return true;
         }
-        left -= 1;
-        let next = &follows[i];
-        i = *next as usize;
+        i = follows[i] as usize;
     }
-    true
+    used <= i
 }
 
 // The test for a short chain, with no table: each row's cell, and whether a later row has its tag and cell.

@@ -1,6 +1,7 @@
 -- The table of places. The rows are entered from the last to the first, so that each place is left with its first row. A row's tag leads to
 -- its place, so a place that is empty, or whose row comes later, says that no row before has the tag.
 -- Assumes nothing.
+use Rattle.std.specs.Prelude.{None, Some}
 use Prim.Native.Nat.{ℕ, zero, suc, ◌-◌, ◌≤◌, ◌<◌}
 use mathlib.Core.Path.{◌≡◌, refl, sym, ap, ◌∙◌}
 use mathlib.Core.Bool.{true, false}
@@ -14,7 +15,6 @@ use Rattle.spec.specs.Rows.{row_at, rows_in, tag_of, commit_tag, commit_number, 
 use Rattle.spec.specs.Look.{commit_of}
 use Rattle.spec.specs.Share.{any}
 use Rattle.search.specs.Inner.{Next}
-use Rattle.spec.specs.declared.Number.TheVariants.{Some, None}
 use Rattle.places.specs.Inner.{place, Places}
 use Rattle.search.proofs.Folds.{any_at, any_none, commit_none, commit_first}
 
@@ -76,9 +76,6 @@ module _ (tag : ℕ → ℕ) (n : ℕ) where
           go (no b) =
               let e : k ≡ i - 1 = omega (arith, b) in
               absurd (ne (rw e (sym at)))
-
-  pub entered_all : (l : List ℕ) (i : ℕ) → i ≤ 0 → Entered tag n l i → Places tag n l
-  entered_all l i h m = record { within = m.within; filled = λ k. m.filled k (omega arith); first = λ x k. m.first x k (omega arith) }
 
   -- where the tag t is not, by what stands at its place
   module _ (places : List ℕ) (h : Places tag n places) (t at : ℕ) (e : at ≡ get_or places (place t) 0) where

@@ -1,92 +1,79 @@
 // What a Write places: a row added, or a value replaced.
-#![tactic(auto)]
+#![tactic(auto, unfolding(spec::specs::Calls::added, spec::specs::Calls::replaced), using(record::proofs::Leaves::left_by_calls))]
 
-ghost use Rattle.std.specs.Prelude.{◌≡◌, false, List, ℕ, ◌*◌, ◌≤◌, ◌<◌, leb, length, get_or};
+ghost use Rattle.std.specs.Prelude.{◌≡◌, false, ◌*◌, ◌≤◌, ◌<◌, leb, length, get_or};
 ghost use Rattle.spec.specs.Set.{clients};
 ghost use Rattle.spec.specs.Rows.{data_width, data_rows_in};
 ghost use Rattle.spec.specs.Share.{cells_of};
-ghost use Rattle.spec.specs.Answers.{figure_of};
-ghost use Rattle.spec.specs.Calls.{added, replaced};
-ghost use Rattle.record.specs.Inner.{columns, unseen, Transforms, shared};
+ghost use Rattle.spec.specs.Answers.{Answered, answer_of};
+ghost use Rattle.placing.specs.Inner.{Adds, Replaces};
 
-use record::{FigureResult, Head};
-use spec::{CLIENTS, FigureAnswer, Refusal};
+use record::Head;
+use spec::{Answer, CLIENTS, Refusal};
 
 // A new data row behind the last in use, where the transaction may write a further cell.
 pub fn new_row(
-    h: Head,
+    head: &mut Head,
     number: &[u32; CLIENTS],
     rows: &mut [u8],
     client: u32,
     cell: u32,
     value: &[u8],
-) -> FigureResult
-    requires rows_in_bounds { data_width * h.rows ≤ length rows.old }
-    requires used_le_rows { h.used ≤ h.rows }
+) -> Answer<u32>
+    requires rows_in_bounds { data_width * head.old.rows ≤ length rows.old }
+    requires used_le_rows { head.old.used ≤ head.old.rows }
     requires client_lt_clients { client < clients }
     requires cell_bound { cell < 1024 }
     requires value_len { length value.now ≡ 16 }
-    requires rows_value { leb h.limit (cells_of (get_or number.now client 0) (data_rows_in h.used rows.old)) ≡ false }
-    ensures { (g s q m b w c : List ℕ) → Transforms (added client cell value.now) h
-        (columns (unseen g) (shared number) (unseen s) (unseen q) (unseen m) (unseen b) (unseen w)) rows (unseen c)
-        result.head (figure_of result.answer) }
+    requires rows_value { leb head.old.limit
+        (cells_of (get_or number.now client 0) (data_rows_in head.old.used rows.old)) ≡ false }
+    ensures { Adds client cell value.now number.now head.old rows.old head.new rows.new (answer_of result) }
 {
-    if h.rows <= h.used {
-        return record::no_figure(h, Refusal::NoFreeRow);
+    if head.rows <= head.used {
+        return Err(Refusal::NoFreeRow);
     }
-    let used = h.used as usize;
+    let used = head.used as usize;
     let k = client as usize;
     let tag = number[k];
     rows::append_row(rows, used, tag, cell, value);
-    let mut next = h;
-    next.used = h.used + 1;
-    FigureResult {
-        head: next,
-        answer: FigureAnswer::Answered(next.rows - next.used),
-    }
+    head.used += 1;
+    Ok(head.rows - head.used)
 }
 
 // The same of any transaction: its cells are counted.
 pub fn counted_row(
-    h: Head,
+    head: &mut Head,
     number: &[u32; CLIENTS],
     rows: &mut [u8],
     client: u32,
     cell: u32,
     value: &[u8],
-) -> FigureResult
-    requires rows_in_bounds { data_width * h.rows ≤ length rows.old }
-    requires used_le_rows { h.used ≤ h.rows }
+) -> Answer<u32>
+    requires rows_in_bounds { data_width * head.old.rows ≤ length rows.old }
+    requires used_le_rows { head.old.used ≤ head.old.rows }
     requires client_lt_clients { client < clients }
     requires cell_bound { cell < 1024 }
     requires value_len { length value.now ≡ 16 }
-    ensures { (g s q m b w c : List ℕ) → Transforms (added client cell value.now) h
-        (columns (unseen g) (shared number) (unseen s) (unseen q) (unseen m) (unseen b) (unseen w)) rows (unseen c)
-        result.head (figure_of result.answer) }
+    ensures { Adds client cell value.now number.now head.old rows.old head.new rows.new (answer_of result) }
 {
-    let most = h.limit as usize;
-    let used = h.used as usize;
+    let most = head.limit as usize;
+    let used = head.used as usize;
     let k = client as usize;
     let tag = number[k];
     if most <= search::count_cells(rows, used, tag) {
-        return record::no_figure(h, Refusal::CellLimit);
+        return Err(Refusal::CellLimit);
     }
-    new_row(h, number, rows, client, cell, value)
+    new_row(head, number, rows, client, cell, value)
 }
 
 // Another value in a data row in use.
-pub fn replace_row(h: Head, rows: &mut [u8], at: usize, value: &[u8]) -> FigureResult
-    requires used_in_bounds { data_width * h.used ≤ length rows.old }
-    requires used_le_rows { h.used ≤ h.rows }
-    requires at_lt_used { at < h.used }
+pub fn replace_row(head: Head, rows: &mut [u8], at: usize, value: &[u8]) -> u32
+    requires used_in_bounds { data_width * head.used ≤ length rows.old }
+    requires used_le_rows { head.used ≤ head.rows }
+    requires at_lt_used { at < head.used }
     requires value_len { length value.now ≡ 16 }
-    ensures { (g n s q m b w c : List ℕ) → Transforms (replaced at value.now) h
-        (columns (unseen g) (unseen n) (unseen s) (unseen q) (unseen m) (unseen b) (unseen w)) rows (unseen c)
-        result.head (figure_of result.answer) }
+    ensures { Replaces at value.now head rows.old rows.new (Answered result) }
 {
     rows::replace_value(rows, at, value);
-    FigureResult {
-        head: h,
-        answer: FigureAnswer::Answered(h.rows - h.used),
-    }
+    head.rows - head.used
 }

@@ -1,18 +1,18 @@
--- Text in a buffer, which ends at a place: words, digits and hexadecimal digits appended byte by byte, and two appended texts as one.
+-- Text in a buffer, which ends at a place: two appended texts as one, and the digits of a number and of bytes.
 -- Assumes nothing.
 use Prim.Native.Nat.{ℕ, zero, suc, ◌+◌, ◌-◌, ◌/◌, ◌%◌, ◌≤◌, ◌<◌}
 use mathlib.Core.Path.{◌≡◌, refl, sym, ◌∙◌}
 use mathlib.Core.Bool.{Bool, true, false}
 use mathlib.Core.List.{List, [], ◌∷◌, ◌++◌, append-nil, append_assoc}
-use native.Mathlib.Numerals.{add-one, add-two, sub-one}
+use native.Mathlib.Numerals.{sub-one}
 use native.Mathlib.Nat.{lt_irrefl}
 use native.Mathlib.Omega.{arith}
-use lib.ListN.{length, get_or, take, drop, set, length-set, length-drop, length-append, drop_of_length-le}
-use lib.Seq.{drop-cons, take-suc, take-suc-set, take_all, drop-set-lt, get_or-set_same}
+use lib.ListN.{length, take, drop, set, length-set, length-drop, length-append, drop_of_length-le}
+use lib.Seq.{drop-cons, drop-set-lt, get_or-set_same}
 use lib.Dec.{eqb}
 use borrow.Author.Tests.{eq-eqb, ne_eqb}
 use Rattle.std.specs.Prelude.{if◌then◌else◌}
-use Rattle.spec.specs.Text.{hex_digit, hex_text, decimal_on, decimal_of}
+use Rattle.spec.specs.Text.{hex_text, decimal_on, decimal_of}
 use Rattle.printing.specs.Inner.{Put, Spelled, pair_of}
 
 pub put_then : {a b d w v : List ℕ} {i j k : ℕ} → Put a i w b j → Put b j v d k → Put a i (w ++ v) d k
@@ -21,36 +21,10 @@ put_then {a} {b} {d} {w} {v} {i} {j} {k} p q = record {
   text = rw (q.text, p.text, append_assoc);
 }
 
--- ---- a word: t is the text before it
+-- ---- hexadecimal digits: what is written, with the digits of the bytes from i on, is the whole
 
-module _ (out w t : List ℕ) (o i : ℕ) (e : take o out ≡ t ++ take i w) where
-  pub put_more : o < length out → i < length w → take (o + 1) (set out o (get_or w i 0)) ≡ t ++ take (i + 1) w
-  put_more h k = rw (add-one o, add-one i, take-suc-set out o (get_or w i 0) h, take-suc w i 0 k, e, append_assoc)
-
-  pub put_end : length w ≤ i → take o out ≡ t ++ w
-  put_end h = rw (take_all i w h) at e
-
--- ---- one byte, and two
-
-pub put_one_lem : (out : List ℕ) (o a : ℕ) → o < length out → take (o + 1) (set out o a) ≡ take o out ++ (a ∷ [])
-put_one_lem out o a h = rw (add-one o, take-suc-set out o a h)
-
-pub put_two : (out : List ℕ) (o a b : ℕ) → o + 1 < length out → take (o + 2) (set (set out o a) (o + 1) b) ≡ take o out ++ (a ∷ b ∷ [])
-put_two out o a b h =
-    let k : o + 1 < length (set out o a) = simp length-set (omega arith) in
-    let j : o < length out = omega arith in
-    rw (add-two o, add-one o, take-suc-set (set out o a) (suc o) b (rw add-one at k), take-suc-set out o a j, append_assoc)
-
--- ---- hexadecimal digits: what is written with the digits of the bytes from i on is the whole
-
-module _ (out v whole : List ℕ) (o i : ℕ) (e : take o out ++ hex_text (drop i v) ≡ whole) where
-  pub hex_put : o + 1 < length out → i < length v
-      → take (o + 2) (set (set out o (hex_digit (get_or v i 0 / 16))) (o + 1) (hex_digit (get_or v i 0 % 16))) ++ hex_text (drop (i + 1) v) ≡ whole
-  hex_put h k =
-      rw (put_two out o (hex_digit (get_or v i 0 / 16)) (hex_digit (get_or v i 0 % 16)) h, append_assoc, add-one i) (rw (drop-cons v i 0 k) at e)
-
-  pub hex_all : length v ≤ i → take o out ≡ whole
-  hex_all h = sym (append-nil (take o out)) ∙ (rw (drop_of_length-le v h) at e)
+pub hex_all : (out v whole : List ℕ) (o i : ℕ) → take o out ++ hex_text (drop i v) ≡ whole → length v ≤ i → take o out ≡ whole
+hex_all out v whole o i e h = sym (append-nil (take o out)) ∙ (rw (drop_of_length-le v h) at e)
 
 pub hex_length : (v : List ℕ) → length (hex_text v) ≡ length v + length v
 hex_length [] = refl
@@ -81,9 +55,9 @@ unfolding decimal_on
 decimal_last d zero n h k z = absurd (lt_irrefl _ h)
 decimal_last d (suc i) n h k z = rw (sub-one (suc i), eq-eqb (n / 10) 0 z, drop_stored d i (48 + n % 10) k)
 
-pub decimal_end : (i n : ℕ) (t : List ℕ) → i ≤ 0 → decimal_on i n t ≡ t
+pub decimal_end : (i n : ℕ) (d : List ℕ) → i ≤ 0 → decimal_on i n (drop i d) ≡ d
 unfolding decimal_on
-decimal_end i n t h = let z : i ≡ 0 = omega arith in rw z
+decimal_end i n d h = let z : i ≡ 0 = omega arith in rw z
 
 -- ---- numbers of few digits
 
@@ -118,12 +92,5 @@ decimal_four n g h =
     rw (decimal_start n, ne_eqb (n / 10) 0 (λ e. omega arith), ne_eqb (n / 10 / 10) 0 (λ e. omega arith))
     (rw (digits_short 6 (n / 10 / 10) _ (omega arith), a, b, d))
 
--- the digits are the part of the ten bytes that is lent
-module _ {n : ℕ} {d : List ℕ} {from : ℕ} (s : Spelled n d from) where
-  pub spelled_part : take (10 - from) (drop from d) ≡ decimal_of n
-  spelled_part =
-      let k : length (drop from d) ≤ 10 - from = simp length-drop (omega (arith, s.ten)) in
-      take_all (10 - from) (drop from d) k ∙ s.whole
-
-  pub spelled_length : length (decimal_of n) ≤ 10
-  spelled_length = rw (← s.whole) (simp length-drop (omega (arith, s.ten)))
+pub spelled_length : {n : ℕ} {d : List ℕ} {from : ℕ} → Spelled n d from → length (decimal_of n) ≤ 10
+spelled_length s = rw (← s.whole) (simp length-drop (omega (arith, s.ten)))

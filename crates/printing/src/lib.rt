@@ -14,14 +14,9 @@ pub fn put(out: &mut [u8], at: usize, word: &[u8]) -> usize
     requires { at + length word.now ≤ length out.old }
     ensures { Put out.old at word.now out.new result }
 {
-    let mut i = 0;
-    let mut o = at;
-    while i < word.len() {
-        out[o] = word[i];
-        i += 1;
-        o += 1;
-    }
-    o
+    let end = at + word.len();
+    out[at..end].copy_from_slice(word);
+    end
 }
 
 // Decimal digits: the last bytes, from a place on.
@@ -35,17 +30,15 @@ fn digits_of(n: u32) -> Digits
     ensures { Spelled n result.bytes result.from }
 {
     let mut bytes = [0u8; 10];
-    let mut from: usize = 10;
     let mut rest = n;
-    while 0 < from {
-        from -= 1;
-        bytes[from] = 48 + (rest % 10) as u8;
+    for from in (0..10usize).rev() {
+        bytes[from] = b'0' + (rest % 10) as u8;
         rest = rest / 10;
         if rest == 0 {
             return Digits { bytes, from };
         }
     }
-    Digits { bytes, from }
+    Digits { bytes, from: 0 }
 }
 
 // A number of any length, in decimal.
@@ -55,9 +48,7 @@ fn put_long(out: &mut [u8], at: usize, n: u32) -> usize
     ensures upper_bound { result ≤ at + 10 }
 {
     let s = digits_of(n);
-    let d = s.bytes;
-    let from = s.from;
-    put(out, at, &d[from..])
+    put(out, at, &s.bytes[s.from..])
 }
 
 // Two digits.
@@ -66,9 +57,7 @@ fn put_pair(out: &mut [u8], at: usize, n: u32) -> usize
     requires n_bound { n < 100 }
     ensures { Put out.old at (pair_of n) out.new result }
 {
-    out[at] = 48 + (n / 10) as u8;
-    out[at + 1] = 48 + (n % 10) as u8;
-    at + 2
+    put(out, at, &[b'0' + (n / 10) as u8, b'0' + (n % 10) as u8])
 }
 
 // A number of one or two digits.
@@ -79,8 +68,7 @@ fn put_short(out: &mut [u8], at: usize, n: u32) -> usize
     ensures upper_bound { result ≤ at + 2 }
 {
     if n < 10 {
-        out[at] = 48 + n as u8;
-        return at + 1;
+        return put(out, at, &[b'0' + n as u8]);
     }
     put_pair(out, at, n)
 }
@@ -102,11 +90,12 @@ pub fn put_decimal(out: &mut [u8], at: usize, n: u32) -> usize
 }
 
 // The digit of a value below 16.
+#[tactic(auto, unfolding(spec::specs::Text::hex_digit))]
 fn hex_digit(d: u8) -> u8
     requires { d < 16 }
     ensures { result ≡ hex_digit d }
 {
-    if d < 10 { 48 + d } else { 87 + d }
+    if d < 10 { b'0' + d } else { b'a' + (d - 10) }
 }
 
 // Bytes in hexadecimal.
@@ -114,14 +103,9 @@ pub fn put_hex(out: &mut [u8], at: usize, value: &[u8]) -> usize
     requires { at + length value.now + length value.now ≤ length out.old }
     ensures { Put out.old at (hex_text value.now) out.new result }
 {
-    let mut i = 0;
     let mut o = at;
-    while i < value.len() {
-        let b = value[i];
-        out[o] = hex_digit(b / 16);
-        out[o + 1] = hex_digit(b % 16);
-        i += 1;
-        o += 2;
+    for b in value {
+        o = put(out, o, &[hex_digit(*b / 16), hex_digit(*b % 16)]);
     }
     o
 }

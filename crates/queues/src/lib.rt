@@ -1,196 +1,110 @@
-// The steps of Advance in the two queues: numbers taken and noted, queues entered and left. A step is lent the columns
-// that it sees; its promise speaks of any others. The lists are crate lists.
+// The steps of Advance in the two queues: numbers taken and noted, queues entered and left. A step that is lent no buffer
+// promises for any two. The lists are crate lists.
 #![tactic(auto)]
 
-ghost use Rattle.std.specs.Prelude.{◌≡◌, List, ℕ, ◌<◌};
+ghost use Rattle.std.specs.Prelude.{◌<◌};
 ghost use Rattle.spec.specs.Set.{clients};
 ghost use Rattle.spec.specs.Steps.{note_request, enter_commits, note_commit, go_on, finished, take_request, take_commit};
 ghost use Rattle.spec.specs.Steps.{leave_commits, leave_requests};
-ghost use Rattle.record.specs.Inner.{columns, unseen};
-ghost use Rattle.queues.specs.Inner.{Step};
+ghost use Rattle.record.specs.Inner.{SameArrays};
+ghost use Rattle.queues.specs.Inner.{StepAlone};
 
-use record::{AdvanceResult, Head};
-use spec::{AdvanceAnswer, CLIENTS, Progress, Refusal, Set, TOP};
-
-pub fn refuse(h: Head, refusal: Refusal) -> AdvanceResult
-    ensures { result ≡ record { head = h; answer = AdvanceAnswer.Refused refusal } }
-{
-    AdvanceResult {
-        head: h,
-        answer: AdvanceAnswer::Refused(refusal),
-    }
-}
+use record::Record;
+use spec::{Answer, Progress, Refusal};
 
 // The client goes on to a stage.
-pub fn go_on(h: Head, stage: &mut [u32; CLIENTS], client: u32, next: u32) -> AdvanceResult
+#[tactic(auto, unfolding(spec::specs::Steps::go_on), using(record::proofs::Ending::ending))]
+pub fn go_on(r: &mut Record, client: u32, next: u32) -> Answer<Progress>
     requires { client < clients }
-    ensures { (n s q m b w d c : List ℕ) → Step (go_on next client) h
-        (columns stage (unseen n) (unseen s) (unseen q) (unseen m) (unseen b) (unseen w))
-        (unseen d) (unseen c) result }
+    ensures same { SameArrays r.old r.new }
+    ensures does { StepAlone (go_on next client) r.old r.new result }
 {
-    let k = client as usize;
-    stage[k] = next;
-    AdvanceResult {
-        head: h,
-        answer: AdvanceAnswer::Answered(Progress::Stage(next)),
-    }
+    r.stage[client as usize] = next;
+    Ok(Progress::Stage(next))
 }
 
 // The client is closed, with Done and a number.
-pub fn finish(
-    h: Head,
-    stage: &mut [u32; CLIENTS],
-    number: &mut [u32; CLIENTS],
-    snapshot: &mut [u32; CLIENTS],
-    request: &mut [u32; CLIENTS],
-    commit: &mut [u32; CLIENTS],
-    request_waits: &mut [Set; CLIENTS],
-    commit_waits: &mut [Set; CLIENTS],
-    client: u32,
-    done: u32,
-) -> AdvanceResult
+#[tactic(auto, unfolding(spec::specs::Steps::finished), using(record::proofs::Ending::ending))]
+pub fn finish(r: &mut Record, client: u32, done: u32) -> Answer<Progress>
     requires { client < clients }
-    ensures { (d c : List ℕ) → Step (finished done client) h
-        (columns stage number snapshot request commit request_waits commit_waits)
-        (unseen d) (unseen c) result }
+    ensures same { SameArrays r.old r.new }
+    ensures does { StepAlone (finished done client) r.old r.new result }
 {
-    record::close(
-        stage,
-        number,
-        snapshot,
-        request,
-        commit,
-        request_waits,
-        commit_waits,
-        client,
-    );
-    AdvanceResult {
-        head: h,
-        answer: AdvanceAnswer::Answered(Progress::Done(done)),
-    }
+    record::close(r, client);
+    Ok(Progress::Done(done))
 }
 
 // 1: take a request number.
-pub fn take_request(
-    h: Head,
-    stage: &mut [u32; CLIENTS],
-    request: &mut [u32; CLIENTS],
-    client: u32,
-) -> AdvanceResult
+#[tactic(auto, unfolding(spec::specs::Steps::take_request, spec::specs::Bytes::decode), using(record::proofs::Ending::ending))]
+pub fn take_request(r: &mut Record, client: u32) -> Answer<Progress>
     requires { client < clients }
-    ensures { (n s m b w d c : List ℕ) → Step (take_request client) h
-        (columns stage (unseen n) (unseen s) request (unseen m) (unseen b) (unseen w))
-        (unseen d) (unseen c) result }
+    ensures same { SameArrays r.old r.new }
+    ensures does { StepAlone (take_request client) r.old r.new result }
 {
-    if h.requested == TOP {
-        return refuse(h, Refusal::Unfit);
-    }
-    let k = client as usize;
-    let n = h.requested + 1;
-    let mut next = h;
-    next.requested = n;
-    request[k] = n;
-    go_on(next, stage, client, 2)
+    let n = r.head.requested.checked_add(1).ok_or(Refusal::Unfit)?;
+    r.head.requested = n;
+    r.request[client as usize] = n;
+    go_on(r, client, 2)
 }
 
 // 2: note the request number in the queue row.
-pub fn note_request(h: Head, stage: &mut [u32; CLIENTS], client: u32) -> AdvanceResult
+pub fn note_request(r: &mut Record, client: u32) -> Answer<Progress>
     requires { client < clients }
-    ensures { (n s q m b w d c : List ℕ) → Step (note_request client) h
-        (columns stage (unseen n) (unseen s) (unseen q) (unseen m) (unseen b) (unseen w))
-        (unseen d) (unseen c) result }
+    ensures same { SameArrays r.old r.new }
+    ensures does { StepAlone (note_request client) r.old r.new result }
 {
-    go_on(h, stage, client, 3)
+    go_on(r, client, 3)
 }
 
 // 6: enter the commit queue.
-pub fn enter_commits(h: Head, stage: &mut [u32; CLIENTS], client: u32) -> AdvanceResult
+pub fn enter_commits(r: &mut Record, client: u32) -> Answer<Progress>
     requires { client < clients }
-    ensures { (n s q m b w d c : List ℕ) → Step (enter_commits client) h
-        (columns stage (unseen n) (unseen s) (unseen q) (unseen m) (unseen b) (unseen w))
-        (unseen d) (unseen c) result }
+    ensures same { SameArrays r.old r.new }
+    ensures does { StepAlone (enter_commits client) r.old r.new result }
 {
-    go_on(h, stage, client, 7)
+    go_on(r, client, 7)
 }
 
 // 7: take a commit number.
-pub fn take_commit(
-    h: Head,
-    stage: &mut [u32; CLIENTS],
-    commit: &mut [u32; CLIENTS],
-    client: u32,
-) -> AdvanceResult
+#[tactic(auto, unfolding(spec::specs::Steps::take_commit, spec::specs::Bytes::decode), using(record::proofs::Ending::ending))]
+pub fn take_commit(r: &mut Record, client: u32) -> Answer<Progress>
     requires { client < clients }
-    ensures { (n s q b w d c : List ℕ) → Step (take_commit client) h
-        (columns stage (unseen n) (unseen s) (unseen q) commit (unseen b) (unseen w))
-        (unseen d) (unseen c) result }
+    ensures same { SameArrays r.old r.new }
+    ensures does { StepAlone (take_commit client) r.old r.new result }
 {
-    if h.taken == TOP {
-        return refuse(h, Refusal::Unfit);
-    }
-    let k = client as usize;
-    let n = h.taken + 1;
-    let mut next = h;
-    next.taken = n;
-    commit[k] = n;
-    go_on(next, stage, client, 8)
+    let n = r.head.taken.checked_add(1).ok_or(Refusal::Unfit)?;
+    r.head.taken = n;
+    r.commit[client as usize] = n;
+    go_on(r, client, 8)
 }
 
 // 8: note the commit number.
-pub fn note_commit(h: Head, stage: &mut [u32; CLIENTS], client: u32) -> AdvanceResult
+pub fn note_commit(r: &mut Record, client: u32) -> Answer<Progress>
     requires { client < clients }
-    ensures { (n s q m b w d c : List ℕ) → Step (note_commit client) h
-        (columns stage (unseen n) (unseen s) (unseen q) (unseen m) (unseen b) (unseen w))
-        (unseen d) (unseen c) result }
+    ensures same { SameArrays r.old r.new }
+    ensures does { StepAlone (note_commit client) r.old r.new result }
 {
-    go_on(h, stage, client, 9)
+    go_on(r, client, 9)
 }
 
 // 12: leave the commit queue.
-pub fn leave_commits(
-    h: Head,
-    stage: &mut [u32; CLIENTS],
-    commit_waits: &mut [Set; CLIENTS],
-    client: u32,
-) -> AdvanceResult
+#[tactic(auto, unfolding(spec::specs::Steps::leave_commits, spec::specs::Bytes::decode, spec::specs::Bytes::encode))]
+pub fn leave_commits(r: &mut Record, client: u32) -> Answer<Progress>
     requires { client < clients }
-    ensures { (n s q m b d c : List ℕ) → Step (leave_commits client) h
-        (columns stage (unseen n) (unseen s) (unseen q) (unseen m) (unseen b) commit_waits)
-        (unseen d) (unseen c) result }
+    ensures same { SameArrays r.old r.new }
+    ensures does { StepAlone (leave_commits client) r.old r.new result }
 {
-    *commit_waits = waiting::clear_all(*commit_waits, client);
-    go_on(h, stage, client, 13)
+    *r.commit_waits = waiting::clear_all(*r.commit_waits, client);
+    go_on(r, client, 13)
 }
 
 // 13: leave the request queue; closed.
-pub fn leave_requests(
-    h: Head,
-    stage: &mut [u32; CLIENTS],
-    number: &mut [u32; CLIENTS],
-    snapshot: &mut [u32; CLIENTS],
-    request: &mut [u32; CLIENTS],
-    commit: &mut [u32; CLIENTS],
-    request_waits: &mut [Set; CLIENTS],
-    commit_waits: &mut [Set; CLIENTS],
-    client: u32,
-) -> AdvanceResult
+#[tactic(auto, unfolding(spec::specs::Steps::leave_requests), using(record::proofs::Ending::ending))]
+pub fn leave_requests(r: &mut Record, client: u32) -> Answer<Progress>
     requires { client < clients }
-    ensures { (d c : List ℕ) → Step (leave_requests client) h
-        (columns stage number snapshot request commit request_waits commit_waits)
-        (unseen d) (unseen c) result }
+    ensures same { SameArrays r.old r.new }
+    ensures does { StepAlone (leave_requests client) r.old r.new result }
 {
-    let k = client as usize;
-    let done = commit[k];
-    finish(
-        h,
-        stage,
-        number,
-        snapshot,
-        request,
-        commit,
-        request_waits,
-        commit_waits,
-        client,
-        done,
-    )
+    let done = r.commit[client as usize];
+    finish(r, client, done)
 }

@@ -1,1 +1,4 @@
+pub mod Counting
+pub mod Ending
+pub mod Leaves
 pub mod Smallest

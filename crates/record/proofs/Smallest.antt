@@ -8,9 +8,8 @@ use native.Mathlib.Omega.{arith}
 use lib.ListN.{get_or}
 use lib.Dec.{ltb}
 use borrow.Author.Tests.{lt-ltb, le-ltb, eq-eqb, ltb-false}
-use Rattle.std.specs.Prelude.{if◌then◌else◌}
+use Rattle.std.specs.Prelude.{if◌then◌else◌, None, Some}
 use Rattle.spec.specs.Numbers.{lesser, smallest}
-use Rattle.spec.specs.declared.Number.TheVariants.{Some, None}
 use Rattle.spec.specs.Calls.{readers}
 use Rattle.record.specs.Inner.{short_number, Lowers, SmallestOpen, AllClosed}
 
@@ -36,7 +35,7 @@ lesser_old s b h g = rw (lt-ltb b 4294967296 (omega (arith, h, g))) (go (ltb b s
 
 -- client k beside those below it, in the lists l of numbers and p of snapshots
 pub one_lower : (l p : List ℕ) (k b r : ℕ) {m : ℕ} → m ≡ suc k → Lowers b (get_or l k 0) (get_or p k 0) r
-    → SmallestOpen l p k b → SmallestOpen l p m r
+    → SmallestOpen l p k (short_number b) → SmallestOpen l p m (short_number r)
 unfolding readers smallest
 one_lower l p k b r e i f x n s = rw e (rw (← n, ← s) at i ∙ ap (lesser _) (f x n s))
 

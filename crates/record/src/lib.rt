@@ -1,16 +1,28 @@
-// The record apart: its eight numbers by value, and its arrays by client lent, a column each. Fitness, a new record,
-// closing a client, Trim's low; and how a record by value comes apart and together.
+// The record apart: its eight numbers are held, and its arrays by client lent. Fitness, a new record, closing a client,
+// Trim's low; and how a record by value comes apart and together.
 #![tactic(auto)]
 
-ghost use Rattle.std.specs.Prelude.{◌≡◌, false, ◌+◌, ◌<◌, ◌≤◌};
+ghost use Rattle.std.specs.Prelude.{◌≡◌, true, false, ◌+◌, ◌<◌, ◌≤◌};
 ghost use Rattle.spec.specs.Set.{clients};
-ghost use Rattle.spec.specs.Image.{closed, clients_of, empty};
-ghost use Rattle.spec.specs.Bytes.{clients_in, store_of, known};
-ghost use Rattle.record.specs.Inner.{whole, columns, no_clients, Suits, AllClosed, Lowers, SmallestOpen};
+ghost use Rattle.spec.specs.Image.{closed, empty};
+ghost use Rattle.spec.specs.Bytes.{clients_in, store_of, known, fits};
+ghost use Rattle.record.specs.Inner.{
+  whole,
+  clients_at,
+  store_at,
+  SameArrays,
+  no_clients,
+  Suits,
+  HasRoom,
+  AllClosed,
+  Lowers,
+  SmallestOpen,
+  short_number,
+};
 
-use spec::{AdvanceAnswer, CLIENTS, COMMIT_ROW, DATA_ROW, FigureAnswer, Refusal, Set, Store};
+use spec::{CLIENTS, COMMIT_ROW, DATA_ROW, Set, Store};
 
-// The numbers of a record. Its arrays by client are lent beside them.
+// The numbers of a record.
 #[derive(Clone, Copy)]
 pub struct Head {
     pub rows: u32,
@@ -23,23 +35,23 @@ pub struct Head {
     pub entries: u32,
 }
 
-// The numbers that a call leaves, and its answer: a figure, or what Advance answers.
-#[derive(Clone, Copy)]
-pub struct FigureResult {
+// A record whose arrays by client are lent: what a call works on. It leaves the same arrays in it.
+#[derive(Drop)]
+pub struct Record<'a> {
     pub head: Head,
-    pub answer: FigureAnswer,
-}
-
-#[derive(Clone, Copy)]
-pub struct AdvanceResult {
-    pub head: Head,
-    pub answer: AdvanceAnswer,
+    pub stage: &'a mut [u32; CLIENTS],
+    pub number: &'a mut [u32; CLIENTS],
+    pub snapshot: &'a mut [u32; CLIENTS],
+    pub request: &'a mut [u32; CLIENTS],
+    pub commit: &'a mut [u32; CLIENTS],
+    pub request_waits: &'a mut [Set; CLIENTS],
+    pub commit_waits: &'a mut [Set; CLIENTS],
 }
 
 // ---- a record by value, and apart
 
-pub fn head_of(store: Store) -> Head
-    ensures { whole result (clients_in store) ≡ store }
+pub fn head_of(store: &Store) -> Head
+    ensures { whole result (clients_in store.now) ≡ store.now }
 {
     Head {
         rows: store.rows,
@@ -53,57 +65,24 @@ pub fn head_of(store: Store) -> Head
     }
 }
 
-// The record of these numbers and columns.
-pub fn joined(
-    h: Head,
-    stage: [u32; CLIENTS],
-    number: [u32; CLIENTS],
-    snapshot: [u32; CLIENTS],
-    request: [u32; CLIENTS],
-    commit: [u32; CLIENTS],
-    request_waits: [Set; CLIENTS],
-    commit_waits: [Set; CLIENTS],
-) -> Store
-    ensures { result ≡ whole h (clients_of stage number snapshot request commit request_waits commit_waits) }
+// Other numbers, with the arrays as they are.
+pub fn renumber(store: &mut Store, h: Head)
+    ensures { store.new ≡ whole h (clients_in store.old) }
 {
-    Store {
-        rows: h.rows,
-        limit: h.limit,
-        issued: h.issued,
-        requested: h.requested,
-        taken: h.taken,
-        last: h.last,
-        used: h.used,
-        entries: h.entries,
-        stage,
-        number,
-        snapshot,
-        request,
-        commit,
-        request_waits,
-        commit_waits,
-    }
-}
-
-// The record with other numbers.
-pub fn renumbered(store: Store, h: Head) -> Store
-    ensures { result ≡ whole h (clients_in store) }
-{
-    let mut next = store;
-    next.rows = h.rows;
-    next.limit = h.limit;
-    next.issued = h.issued;
-    next.requested = h.requested;
-    next.taken = h.taken;
-    next.last = h.last;
-    next.used = h.used;
-    next.entries = h.entries;
-    next
+    store.rows = h.rows;
+    store.limit = h.limit;
+    store.issued = h.issued;
+    store.requested = h.requested;
+    store.taken = h.taken;
+    store.last = h.last;
+    store.used = h.used;
+    store.entries = h.entries;
 }
 
 // ---- a new record
 
 // Its numbers.
+#[tactic(auto, unfolding(spec::specs::Bytes::store_of, spec::specs::Image::empty))]
 pub fn starting(rows: u32, limit: u32, issued: u32) -> Head
     ensures { whole result no_clients ≡ store_of (empty rows limit issued) }
 {
@@ -119,41 +98,43 @@ pub fn starting(rows: u32, limit: u32, issued: u32) -> Head
     }
 }
 
-// Its columns, whatever these have held.
-pub fn zeroed(
-    stage: &mut [u32; CLIENTS],
-    number: &mut [u32; CLIENTS],
-    snapshot: &mut [u32; CLIENTS],
-    request: &mut [u32; CLIENTS],
-    commit: &mut [u32; CLIENTS],
-    request_waits: &mut [Set; CLIENTS],
-    commit_waits: &mut [Set; CLIENTS],
-)
-    ensures { (columns stage number snapshot request commit request_waits commit_waits).exit ≡ no_clients }
+// Its arrays, whatever these have held.
+pub fn zero(r: &mut Record)
+    ensures same { SameArrays r.old r.new }
+    ensures head { r.new.head ≡ r.old.head }
+    ensures zeros { clients_at r.new ≡ no_clients }
 {
-    *stage = [0; CLIENTS];
-    *number = [0; CLIENTS];
-    *snapshot = [0; CLIENTS];
-    *request = [0; CLIENTS];
-    *commit = [0; CLIENTS];
-    *request_waits = [0; CLIENTS];
-    *commit_waits = [0; CLIENTS];
+    *r.stage = [0; CLIENTS];
+    *r.number = [0; CLIENTS];
+    *r.snapshot = [0; CLIENTS];
+    *r.request = [0; CLIENTS];
+    *r.commit = [0; CLIENTS];
+    *r.request_waits = [0; CLIENTS];
+    *r.commit_waits = [0; CLIENTS];
 }
 
 // A record with nothing open and no row in use.
+#[tactic(auto, unfolding(spec::specs::Bytes::store_of, spec::specs::Image::empty))]
 pub fn fresh(rows: u32, limit: u32, issued: u32) -> Store
     ensures { result ≡ store_of (empty rows limit issued) }
 {
-    joined(
-        starting(rows, limit, issued),
-        [0; CLIENTS],
-        [0; CLIENTS],
-        [0; CLIENTS],
-        [0; CLIENTS],
-        [0; CLIENTS],
-        [0; CLIENTS],
-        [0; CLIENTS],
-    )
+    Store {
+        rows,
+        limit,
+        issued,
+        requested: 0,
+        taken: 0,
+        last: 0,
+        used: 0,
+        entries: 0,
+        stage: [0; CLIENTS],
+        number: [0; CLIENTS],
+        snapshot: [0; CLIENTS],
+        request: [0; CLIENTS],
+        commit: [0; CLIENTS],
+        request_waits: [0; CLIENTS],
+        commit_waits: [0; CLIENTS],
+    }
 }
 
 // ---- fitness
@@ -171,66 +152,59 @@ fn stages_known(stage: &[u32; CLIENTS]) -> bool
     ok
 }
 
-// Whether the store is fit for buffers of these lengths.
-pub fn fit(h: Head, stage: &[u32; CLIENTS], d: usize, c: usize) -> bool
-    ensures { Suits h stage.now d c result }
-{
-    let rows = h.rows;
-    if rows < 1 {
-        return false;
+impl Head {
+    // Whether the store of these numbers and stages is fit for buffers of these lengths.
+    #[tactic(auto, unfolding(spec::specs::Bytes::fits))]
+    pub fn fit(self, stage: &[u32; CLIENTS], d: usize, c: usize) -> bool
+        ensures suits { Suits self stage.now d c result }
+        ensures room { result ≡ true → HasRoom self d c }
+    {
+        let wide = self.rows as usize;
+        self.rows >= 1
+            && self.rows <= 1024
+            && d == DATA_ROW * wide
+            && c == COMMIT_ROW * wide
+            && self.used <= self.rows
+            && self.entries <= self.rows
+            && stages_known(stage)
     }
-    if 1024 < rows {
-        return false;
+}
+
+impl<'a> Record<'a> {
+    // Whether it is fit for buffers of these lengths.
+    pub fn fit(&self, d: usize, c: usize) -> bool
+        ensures { result ≡ fits (store_at self.now) d c }
+    {
+        self.head.fit(self.stage, d, c)
     }
-    let wide = rows as usize;
-    if d != DATA_ROW * wide {
-        return false;
-    }
-    if c != COMMIT_ROW * wide {
-        return false;
-    }
-    if rows < h.used {
-        return false;
-    }
-    if rows < h.entries {
-        return false;
-    }
-    stages_known(stage)
 }
 
 // ---- closing a client
 
 // The client closed: its fields zero, and its bit cleared in each waiting list.
-pub fn close(
-    stage: &mut [u32; CLIENTS],
-    number: &mut [u32; CLIENTS],
-    snapshot: &mut [u32; CLIENTS],
-    request: &mut [u32; CLIENTS],
-    commit: &mut [u32; CLIENTS],
-    request_waits: &mut [Set; CLIENTS],
-    commit_waits: &mut [Set; CLIENTS],
-    client: u32,
-)
+#[tactic(auto, unfolding(spec::specs::Image::closed))]
+pub fn close(r: &mut Record, client: u32)
     requires { client < clients }
-    ensures { (columns stage number snapshot request commit request_waits commit_waits).exit
-        ≡ closed client (columns stage number snapshot request commit request_waits commit_waits).entry }
+    ensures same { SameArrays r.old r.new }
+    ensures head { r.new.head ≡ r.old.head }
+    ensures closed { clients_at r.new ≡ closed client (clients_at r.old) }
 {
     let k = client as usize;
-    stage[k] = 0;
-    number[k] = 0;
-    snapshot[k] = 0;
-    request[k] = 0;
-    commit[k] = 0;
-    *request_waits = waiting::clear_all(*request_waits, client);
-    request_waits[k] = 0;
-    *commit_waits = waiting::clear_all(*commit_waits, client);
-    commit_waits[k] = 0;
+    r.stage[k] = 0;
+    r.number[k] = 0;
+    r.snapshot[k] = 0;
+    r.request[k] = 0;
+    r.commit[k] = 0;
+    *r.request_waits = waiting::clear_all(*r.request_waits, client);
+    r.request_waits[k] = 0;
+    *r.commit_waits = waiting::clear_all(*r.commit_waits, client);
+    r.commit_waits[k] = 0;
 }
 
 // ---- Trim
 
 // What stands for a smallest snapshot where there is none: it is above all numbers of 32 bits.
-pub const NO_SNAPSHOT: u64 = 4294967296;
+const NO_SNAPSHOT: u64 = 4294967296;
 
 // Whether one of the eight clients from this one on is open. All are looked at, so that they are tested at once.
 fn some_open(number: &[u32; CLIENTS], from: usize) -> bool
@@ -260,8 +234,8 @@ fn lower(best: u64, number: u32, snapshot: u32) -> u64
 // The smallest snapshot of these eight and the clients before them, whose own it is given.
 fn eight_more(number: &[u32; CLIENTS], snapshot: &[u32; CLIENTS], from: usize, best: u64) -> u64
     requires { from + 8 ≤ clients }
-    ensures { SmallestOpen number.now snapshot.now from best
-        → SmallestOpen number.now snapshot.now (from + 8) result }
+    ensures { SmallestOpen number.now snapshot.now from (short_number best)
+        → SmallestOpen number.now snapshot.now (from + 8) (short_number result) }
 {
     let mut next = best;
     for j in 0..8 {
@@ -272,7 +246,7 @@ fn eight_more(number: &[u32; CLIENTS], snapshot: &[u32; CLIENTS], from: usize, b
 
 // The smallest snapshot of open transactions, in every image with these columns. Most clients are closed: eight at a
 // time are passed.
-pub fn smallest_open(number: &[u32; CLIENTS], snapshot: &[u32; CLIENTS]) -> u64
+pub fn smallest_open(number: &[u32; CLIENTS], snapshot: &[u32; CLIENTS]) -> Option<u32>
     ensures { SmallestOpen number.now snapshot.now clients result }
 {
     let mut best = NO_SNAPSHOT;
@@ -281,17 +255,9 @@ pub fn smallest_open(number: &[u32; CLIENTS], snapshot: &[u32; CLIENTS]) -> u64
             best = eight_more(number, snapshot, 8 * t, best);
         }
     }
-    best
-}
-
-// ---- a refusal
-
-// A call that answers a figure, refused.
-pub fn no_figure(h: Head, refusal: Refusal) -> FigureResult
-    ensures { result ≡ record { head = h; answer = FigureAnswer.Refused refusal } }
-{
-    FigureResult {
-        head: h,
-        answer: FigureAnswer::Refused(refusal),
+    if best < NO_SNAPSHOT {
+        Some(best as u32)
+    } else {
+        None
     }
 }

@@ -1,60 +1,27 @@
--- The compaction. A row is moved down word by word: after k words the buffer is the old one with the first k words of the row put in at the
--- new place. A loop moves the rows to be kept to the front, whatever they are chosen by: before row i, `to` rows stand at the front, what is still
--- to come is what is kept of the rows from i on, and from row `to` on the bytes are the old ones. The rows before the first that goes stand where
--- they were.
+-- The compaction. A loop moves the rows to be kept to the front, whatever they are chosen by: before row i, `to` rows stand at the front, what is
+-- still to come is what is kept of the rows from i on, and from row `to` on the bytes are the old ones. The rows before the first that goes stand
+-- where they were.
 -- Assumes nothing.
 use Prim.Native.Nat.{ℕ, zero, suc, ◌+◌, ◌*◌, ◌-◌, ◌≤◌, ◌<◌}
 use mathlib.Core.Path.{◌≡◌, refl, sym, ap, ◌∙◌}
 use mathlib.Core.List.{List, [], ◌∷◌, ◌++◌, append_assoc, append-nil, flatten}
-use mathlib.Core.Bool.{Bool, true, false}
+use mathlib.Core.Bool.{Bool, true, false, not}
 use lib.Dec.{eqb}
-use native.Mathlib.Nat.{add-zero, mul-zero, mul-suc, mul-le-mul_left}
+use native.Mathlib.Nat.{mul-zero, mul-suc, mul-le-mul_left}
 use native.Mathlib.Numerals.{add-one}
 use native.Mathlib.Omega.{arith}
 use borrow.Author.Count.{below_more}
 use borrow.Rule.Slice.PartMut.{put_mid, Post-is}
 use borrow.Author.Tests.{eq-eqb, ne_eqb, eqb-false}
 use lib.ListN.{length, set, take, drop, get_or, replicate, length-append, length-drop, take-append-drop}
-use lib.Seq.{take_at, drop_at, take-add, length-take-le, drop-drop, get_or-set_same, get_or-set_other}
+use lib.Seq.{take_all, take_at, drop_at, take-add, length-take-le, get_or-set_same, get_or-set_other}
 use Rattle.std.specs.Prelude.{if◌then◌else◌}
 use Rattle.spec.specs.Rows.{Row, part, spliced, row_at, rows_in, rows_from, layout, filter, tag_of, has_tag}
-use Rattle.spec.proofs.Bytes.{spliced_next, take-spliced, drop-spliced, length-spliced, drop_later}
+use Rattle.spec.proofs.Bytes.{take-spliced, drop-spliced, length-spliced, drop_later}
 use Rattle.spec.proofs.Rows.{rows_start, rows_step, rows_end, row_inside, row_length, length_rows}
 use Rattle.spec.proofs.Laid.{laid_fewer, laid_same}
 use Rattle.search.proofs.Folds.{to_start}
-use Rattle.removal.specs.Inner.{kept_from, other_tag, Flags, Left, InFront, Freed}
-
--- ---- a row of words
-
--- a bytes were put in, and then the m that stood behind them
-parts_stored : (s : List ℕ) (from to a m : ℕ) → to ≤ from → from + (a + m) ≤ length s
-    → spliced (to + a) (part (from + a) m s) (spliced to (part from a s) s) ≡ spliced to (part from (a + m) s) s
-parts_stored s from to a m h l =
-    let u : List ℕ = part from a s in
-    let wide : length u ≡ a = length-take-le a (drop from s) (simp length-drop (omega arith)) in
-    let next : to + length u ≡ to + a = rw wide in
-    let joined : u ++ part (from + a) m s ≡ part from (a + m) s = rw (take-add a m (drop from s), drop-drop) in
-    spliced_next s u (part (from + a) m s) to (to + a) next (omega arith) ∙ ap (λ (v : List ℕ). spliced to v s) joined
-
--- three words of a row
-pub row_stored : (s : List ℕ) (from to : ℕ) → to ≤ from → from + 24 ≤ length s
-    → spliced (to + 16) (part (from + 16) 8 s) (spliced (to + 8) (part (from + 8) 8 s) (spliced to (part from 8 s) s)) ≡ spliced to (part from 24 s) s
-row_stored s from to h l = rw (parts_stored s from to 8 8 h (omega arith)) (parts_stored s from to 16 8 h l)
-
--- a bytes of a row were moved down, and then m more
-pub moved_more : (s : List ℕ) (from to a m : ℕ) → to ≤ from → from + (a + m) ≤ length s
-    → spliced (to + a) (part (from + a) m (spliced to (part from a s) s)) (spliced to (part from a s) s) ≡ spliced to (part from (a + m) s) s
-moved_more s from to a m h l =
-    let u : List ℕ = part from a s in
-    let wide : length u ≡ a = length-take-le a (drop from s) (simp length-drop (omega arith)) in
-    let next : to + length u ≡ to + a = rw wide in
-    let same : drop (from + a) (spliced to u s) ≡ drop (from + a) s =
-    drop_later (to + a) (from + a) (spliced to u s) s (omega arith) (drop-spliced to u s (to + a) next (omega arith)) in
-    rw same (parts_stored s from to a m h l)
-
-pub moved_none : (s : List ℕ) (from to : ℕ) → s ≡ spliced to (part from 0 s) s
-unfolding spliced
-moved_none s from to = rw (append-nil (take to s), add-zero to) (sym (take-append-drop to s))
+use Rattle.removal.specs.Inner.{kept_by, kept_from, other_tag, Flags, Left, InFront, Freed}
 
 -- a row that is moved to where it is
 in_place : (at n : ℕ) (s : List ℕ) → at + n ≤ length s → spliced at (part at n s) s ≡ s
@@ -63,54 +30,59 @@ in_place at n s h =
     let wide : length (part at n s) ≡ n = length-take-le n (drop at s) (simp length-drop (omega arith)) in
     rw (wide, ← take-add at n s) (take-append-drop (at + n) s)
 
--- ---- kept_from
+-- ---- the rows that a test keeps
+
+module _ (p : ℕ → Row → Bool) (w n i : ℕ) (s : List ℕ) where
+  pub kept_no : i < n → p i (row_at w i s) ≡ false → kept_by p i (rows_from w n i s) ≡ kept_by p (i + 1) (rows_from w n (i + 1) s)
+  unfolding kept_by
+  kept_no h e = rw (rows_step w n i s h, e)
+
+  pub kept_yes : i < n → p i (row_at w i s) ≡ true → kept_by p i (rows_from w n i s) ≡ row_at w i s ∷ kept_by p (i + 1) (rows_from w n (i + 1) s)
+  unfolding kept_by
+  kept_yes h e = rw (rows_step w n i s h, e)
+
+  pub kept_end : n ≤ i → kept_by p i (rows_from w n i s) ≡ []
+  unfolding kept_by
+  kept_end h = rw (rows_end w n i s h)
+
+-- by flags, and by a test of the row alone
+abbrev pub flag_set : List ℕ → ℕ → Row → Bool
+flag_set flags k r = not (eqb (get_or flags k 0) 0)
+
+pub by_flags : (flags : List ℕ) (i : ℕ) (rs : List Row) → kept_by (flag_set flags) i rs ≡ kept_from flags i rs
+unfolding kept_by kept_from
+by_flags flags i [] = refl
+by_flags flags i (r ∷ rs) = rw (by_flags flags (i + 1) rs) (by_flag (eqb (get_or flags i 0) 0) (kept_from flags (i + 1) rs))
+  where
+    by_flag : (b : Bool) (rest : List Row) → (if not b then (r ∷ rest) else rest) ≡ (if b then rest else (r ∷ rest))
+    by_flag true rest = refl
+    by_flag false rest = refl
+
+pub by_test : (p : Row → Bool) (i : ℕ) (rs : List Row) → kept_by (λ k. p) i rs ≡ filter p rs
+unfolding kept_by filter
+by_test p i [] = refl
+by_test p i (r ∷ rs) = rw (by_test p (i + 1) rs)
+
+pub flag_kept : (flags : List ℕ) (k : ℕ) → (get_or flags k 0 ≡ 0 → ⊥) → not (eqb (get_or flags k 0) 0) ≡ true
+flag_kept flags k h = rw (ne_eqb _ _ h)
 
 module _ (flags : List ℕ) (w n i : ℕ) (s : List ℕ) where
-  pub kept_none : i < n → get_or flags i 0 ≡ 0 → kept_from flags i (rows_from w n i s) ≡ kept_from flags (i + 1) (rows_from w n (i + 1) s)
+  kept_none : i < n → get_or flags i 0 ≡ 0 → kept_from flags i (rows_from w n i s) ≡ kept_from flags (i + 1) (rows_from w n (i + 1) s)
   unfolding kept_from
   kept_none h e = rw (rows_step w n i s h, eq-eqb _ _ e)
 
-  pub kept_one : i < n → (get_or flags i 0 ≡ 0 → ⊥) → kept_from flags i (rows_from w n i s) ≡ row_at w i s ∷ kept_from flags (i + 1) (rows_from w n (i +
-      1) s)
+  kept_one : i < n → (get_or flags i 0 ≡ 0 → ⊥) → kept_from flags i (rows_from w n i s) ≡ row_at w i s ∷ kept_from flags (i + 1) (rows_from w n (i + 1) s)
   unfolding kept_from
   kept_one h e = rw (rows_step w n i s h, ne_eqb _ _ e)
-
-  pub kept_end : n ≤ i → kept_from flags i (rows_from w n i s) ≡ []
-  unfolding kept_from
-  kept_end h = rw (rows_end w n i s h)
-
--- what is kept by flags of the rows from i on
-abbrev pub kept_rows : List ℕ → ℕ → ℕ → List ℕ → ℕ → List Row
-kept_rows flags w n s = λ i. kept_from flags i (rows_from w n i s)
-
-pub kept_start : (flags : List ℕ) (w n : ℕ) (s : List ℕ) → kept_rows flags w n s 0 ≡ kept_from flags 0 (rows_in w n s)
-kept_start flags w n s = rw (rows_start w n s)
 
 row_same : (w i : ℕ) (x y : List ℕ) → drop (w * i) x ≡ drop (w * i) y → part (w * i) w x ≡ row_at w i y
 unfolding row_at
 row_same w i x y e = ap (take w) e
 
--- ---- rows by a test
-
-module _ (p : Row → Bool) (w n i : ℕ) (s : List ℕ) where
-  pub filter_none : i < n → p (row_at w i s) ≡ false → filter p (rows_from w n i s) ≡ filter p (rows_from w n (i + 1) s)
-  unfolding filter
-  filter_none h e = rw (rows_step w n i s h, e)
-
-  pub filter-one : i < n → p (row_at w i s) ≡ true → filter p (rows_from w n i s) ≡ row_at w i s ∷ filter p (rows_from w n (i + 1) s)
-  unfolding filter
-  filter-one h e = rw (rows_step w n i s h, e)
-
-  pub filter_end : n ≤ i → filter p (rows_from w n i s) ≡ []
-  unfolding filter
-  filter_end h = rw (rows_end w n i s h)
-
-pub filter_start : (p : Row → Bool) (w n : ℕ) (s : List ℕ) → filter p (rows_from w n 0 s) ≡ filter p (rows_in w n s)
-filter_start p w n s = rw (rows_start w n s)
-
--- what is kept of the data rows from i on where a transaction's rows go
-abbrev pub other_rows : ℕ → ℕ → List ℕ → ℕ → List Row
-other_rows tag n s = λ i. filter (other_tag tag) (rows_from 24 n i s)
+-- a row alone
+row_alone : (w : ℕ) (r : List ℕ) → length r ≡ w → row_at w 0 r ≡ r
+unfolding row_at
+row_alone w r h = rw mul-zero (take_all w r (omega arith))
 
 -- ---- the walk: `K i` are the rows that are kept of those from row i on
 
@@ -136,7 +108,7 @@ module _ (K : ℕ → List Row) (w n : ℕ) (s : List ℕ) where
       }
 
   module _ (l : w * n ≤ length s) where
-    moving-keep : (buf : List ℕ) (to i : ℕ) → i < n → K i ≡ row_at w i s ∷ K (i + 1) → Moving K w n s buf to i
+    pub moving-keep : (buf : List ℕ) (to i : ℕ) → i < n → K i ≡ row_at w i s ∷ K (i + 1) → Moving K w n s buf to i
         → Moving K w n s (spliced (w * to) (part (w * i) w buf) buf) (to + 1) (i + 1)
     unfolding flatten
     moving-keep buf to i h k m =
@@ -155,11 +127,6 @@ module _ (K : ℕ → List Row) (w n : ℕ) (s : List ℕ) where
           rest = rw (row, drop-spliced (w * to) (row_at w i s) buf (w * (to + 1)) next room)
               (drop_later (w * to) (w * (to + 1)) buf s (omega arith) m.rest);
         }
-
-    -- by the places that the row is moved from and to
-    pub moving-moved : (buf buf' : List ℕ) (left to i from : ℕ) → i < n → K i ≡ row_at w i s ∷ K (i + 1) → Moving K w n s buf left i
-        → to ≡ w * left → from ≡ w * i → buf' ≡ spliced to (part from w buf) buf → Moving K w n s buf' (left + 1) (i + 1)
-    moving-moved buf buf' left to i from h k m p q e = rw (e, p, q) (moving-keep buf left i h k m)
 
     -- the rows before the first that goes
     pub moving-start : (first : ℕ) → first ≤ n → ((k : ℕ) → k < first → K k ≡ row_at w k s ∷ K (k + 1)) → Moving K w n s s first first
@@ -203,24 +170,12 @@ pub kept_at_most : (flags : List ℕ) (w n : ℕ) (s : List ℕ) → length (kep
 kept_at_most flags w n s = omega (arith, kept_fewer flags 0 (rows_in w n s), length_rows w n s)
 
 -- the places of row i and of the row that it becomes lie within the buffer
-pub moving_room : (K : ℕ → List Row) (w n : ℕ) (s buf : List ℕ) (to i : ℕ) → w * n ≤ length s → i < n → Moving K w n s buf to i
-    → (w * to ≤ w * i) × (w * i + w ≤ length buf)
-moving_room K w n s buf to i l h m = (mul-le-mul_left w m.fewer, omega (arith, row_inside w i n (length s) h l))
+pub moving_room : (w n len to i : ℕ) → w * n ≤ len → i < n → to ≤ i → (w * to ≤ w * i) × (w * i + w ≤ len)
+moving_room w n len to i l h m = (mul-le-mul_left w m, row_inside w i n len h l)
 
 -- row i is still the one that it was
-pub moving_row : (K : ℕ → List Row) (w n : ℕ) (s buf : List ℕ) (to i : ℕ) → Moving K w n s buf to i → row_at w i buf ≡ row_at w i s
-unfolding row_at
+pub moving_row : (K : ℕ → List Row) (w n : ℕ) (s buf : List ℕ) (to i : ℕ) → Moving K w n s buf to i → part (w * i) w buf ≡ row_at w i s
 moving_row K w n s buf to i m = row_same w i buf s (drop_later (w * to) (w * i) buf s (mul-le-mul_left w m.fewer) m.rest)
-
--- the place of the next row
-pub next_place : (w k : ℕ) → w * k + w ≡ w * (k + 1)
-next_place w k = rw (add-one, mul-suc)
-
--- the freed part lies within the buffer
-pub freed_room : (w n r : ℕ) → 0 < n → r ≤ n → (w * r ≤ w * n) × (w ≤ w * n)
-freed_room w n r h g =
-    let one : w * 1 ≤ w * n = mul-le-mul_left w h in
-    (mul-le-mul_left w g, omega arith)
 
 -- the freed part, cleared
 freed_cleared : (w n r : ℕ) (kept : List Row) (s buf : List ℕ) → r ≡ length kept → r ≤ n → w * n ≤ length s
@@ -283,13 +238,14 @@ left_all w n s rs e = record { rows = rw e (sym (length_rows w n s)); bytes = rw
 
 -- ---- the rows of other transactions
 
-pub other_no : (tag : ℕ) (r : Row) → tag_of r ≡ tag → other_tag tag r ≡ false
-unfolding other_tag has_tag
-other_no tag r e = rw (eq-eqb _ _ e)
-
 pub other_yes : (tag : ℕ) (r : Row) → (tag_of r ≡ tag → ⊥) → other_tag tag r ≡ true
 unfolding other_tag has_tag
 other_yes tag r e = rw (ne_eqb _ _ e)
+
+-- by the tag that was read in the row
+pub other_read : (tag t : ℕ) (r : Row) (b : Bool) → length r ≡ 24 → t ≡ tag_of (row_at 24 0 r) → b ≡ not (eqb t tag) → b ≡ other_tag tag r
+unfolding other_tag has_tag
+other_read tag t r b h e f = f ∙ rw (e, row_alone 24 r h)
 
 -- a loop that stores f k at each index k
 pub stored_more : (f : ℕ → ℕ) (l : List ℕ) (i v : ℕ) → i < length l → ((k : ℕ) → k < i → get_or l k 0 ≡ f k) → v ≡ f i

@@ -1,6 +1,7 @@
 -- What the contracts of inner functions need beyond the words of the papers: nobody has to believe it.
 -- Assumes nothing.
 use Rattle.std.specs.Prelude.{ℕ, ◌+◌, ◌*◌, ◌≤◌, ◌<◌, ◌≡◌, Bool, not, length, get_or, drop, eqb}
+use Rattle.std.specs.Borrow.{Bor}
 use mathlib.Core.List.{List, [], ◌∷◌, ◌++◌, flatten}
 use Rattle.std.specs.Prelude.{if◌then◌else◌}
 use Rattle.spec.specs.Rows.{rows_in, Row, row_at, layout, has_tag}
@@ -11,6 +12,15 @@ use Rattle.spec.specs.Rows.{rows_in, Row, row_at, layout, has_tag}
 unfoldable pub kept_from : List ℕ → ℕ → List Row → List Row
 kept_from flags i [] = []
 kept_from flags i (r ∷ rs) = if eqb (get_or flags i 0) 0 then kept_from flags (i + 1) rs else (r ∷ kept_from flags (i + 1) rs)
+
+-- of rows numbered from i on, those that pass a test of number and row
+unfoldable pub kept_by : (ℕ → Row → Bool) → ℕ → List Row → List Row
+kept_by p i [] = []
+kept_by p i (r ∷ rs) = if p i r then (r ∷ kept_by p (i + 1) rs) else kept_by p (i + 1) rs
+
+-- a call that is lent the row answers, for the first n rows of width w, what p says
+abbrev pub Says : (ℕ → Bor (List ℕ) → Bool → Type 0) → (ℕ → Row → Bool) → ℕ → ℕ → Type 0
+Says post p w n = (k : ℕ) (row : Bor (List ℕ)) (b : Bool) → k < n → length row.now ≡ w → post k row b → b ≡ p k row.now
 
 -- a data row of another transaction
 unfoldable pub other_tag : ℕ → Row → Bool

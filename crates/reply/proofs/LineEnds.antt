@@ -1,14 +1,11 @@
--- Lines put together: a word before a text, a result that is a word and a number, and a head with its result. Each law has the text
--- and the room that it may take.
+-- Lines put together: a word before a text, a result that is a word and a number, and a head with its result.
 -- Assumes nothing.
-use Prim.Native.Nat.{ℕ, ◌+◌, ◌≤◌}
+use Prim.Native.Nat.{ℕ}
 use mathlib.Core.Path.{◌≡◌}
 use mathlib.Core.List.{List, [], ◌++◌, append_assoc}
-use native.Mathlib.Omega.{arith}
-use lib.ListN.{length}
 use Rattle.spec.specs.Text.{str, numbered, head_text, line_text}
 use Rattle.spec.specs.declared.Form.{Form}
-use Rattle.printing.specs.Inner.{Put, answer_room}
+use Rattle.printing.specs.Inner.{Put}
 use Rattle.printing.proofs.Texts.{put_then}
 use Rattle.reply.specs.Inner.{line_closed}
 
@@ -29,17 +26,3 @@ pub put_whole_line : {a b d : List ℕ} {i j k : ℕ} (f : Form) (t : List ℕ) 
     → Put a i (line_text f t) d k
 unfolding line_text
 put_whole_line f t p q = put_then p q
-
--- ---- with the room
-
-pub put_on : {a b d w t : List ℕ} {i j k : ℕ} (m n : ℕ) → Put a i w b j → (Put b j t d k × (k ≤ j + m)) → length w + m ≤ n
-    → (Put a i (w ++ t) d k × (k ≤ i + n))
-put_on m n p q h = (put_then p q.0, omega (arith, p.place, q.1))
-
-pub put_figure : {a b d w : List ℕ} {i j k : ℕ} (n : ℕ) → Put a i w b j → (Put b j (numbered [] n (line_closed (str ")"))) d k × (k ≤ j + 13))
-    → length w ≤ 37 → (Put a i (line_closed (numbered w n (str ")"))) d k × (k ≤ i + 50))
-put_figure n p q h = (put_closed_figure n p q.0, omega (arith, p.place, q.1, h))
-
-pub put_line : {a b d : List ℕ} {i j k : ℕ} (f : Form) (t : List ℕ) → (Put a i (head_text f) b j × (j ≤ i + 40)) → (Put b j (line_closed t) d k × (k ≤ j + 50))
-    → (Put a i (line_text f t) d k × (k ≤ i + answer_room))
-put_line f t p q = (put_whole_line f t p.0 q.0, omega (arith, p.1, q.1))

@@ -1,21 +1,20 @@
 // Answer lines of the step program. Definitions: crate spec, specs/Text.antt and specs/Answers.antt.
 #![tactic(auto)]
 
-ghost use Rattle.std.specs.Prelude.{◌≡◌, [], ◌++◌, ◌+◌, ◌≤◌, length};
-ghost use Rattle.spec.specs.Answers.{code, figure_of, begin_of, read_of, advance_of};
+ghost use Rattle.std.specs.Prelude.{◌≡◌, ℕ, List, [], ◌++◌, ◌+◌, ◌≤◌, length};
+ghost use Rattle.spec.specs.Answers.{code, answer_of};
 ghost use Rattle.spec.specs.Text.{str, numbered, head_text, line_text, answer_text, free_text, dropped_text, begun_text};
 ghost use Rattle.spec.specs.Text.{reading_text, progress_text, refused_text};
 ghost use Rattle.printing.specs.Inner.{answer_room, Put};
 ghost use Rattle.reply.specs.Inner.{line_closed};
 
-use spec::{
-    AdvanceAnswer, BeginAnswer, Begun, FigureAnswer, Form, Progress, ReadAnswer, Reading, Refusal,
-};
+use spec::{Answer, Begun, Form, Progress, Refusal};
 
 // ---- the head of a line: as in crate printing, each function appends to the text that ends at a place, and answers
 // where the text ends now. A word is written where it is printed: its length is then known there.
 
 // A number and a space.
+#[tactic(auto, using(printing::proofs::Texts::put_then), unfolding(spec::specs::Text::numbered))]
 fn put_spaced(out: &mut [u8], at: usize, n: u32) -> usize
     requires { at + 11 ≤ length out.old }
     ensures put { Put out.old at (numbered [] n (str " ")) out.new result }
@@ -26,6 +25,7 @@ fn put_spaced(out: &mut [u8], at: usize, n: u32) -> usize
 }
 
 // A client and a cell.
+#[tactic(auto, using(printing::proofs::Texts::put_then))]
 fn put_cell(out: &mut [u8], at: usize, client: u32, cell: u32) -> usize
     requires { at + 22 ≤ length out.old }
     ensures put { Put out.old at (numbered [] client (str " ") ++ numbered [] cell (str " "))
@@ -37,6 +37,7 @@ fn put_cell(out: &mut [u8], at: usize, client: u32, cell: u32) -> usize
 }
 
 // Keyword, client and cell of a form.
+#[tactic(auto, using(printing::proofs::Texts::put_then), unfolding(spec::specs::Text::head_text, spec::specs::Text::numbered))]
 fn put_head(out: &mut [u8], at: usize, form: Form) -> usize
     requires { at + 40 ≤ length out.old }
     ensures put { Put out.old at (head_text form) out.new result }
@@ -81,6 +82,7 @@ fn put_head(out: &mut [u8], at: usize, form: Form) -> usize
 // ---- results. The last word printed closes the result and the line.
 
 // A number and the end.
+#[tactic(auto, using(printing::proofs::Texts::put_then), unfolding(spec::specs::Text::numbered))]
 fn put_last(out: &mut [u8], at: usize, n: u32) -> usize
     requires { at + 13 ≤ length out.old }
     ensures put { Put out.old at (numbered [] n (line_closed (str ")"))) out.new result }
@@ -99,6 +101,24 @@ fn put_refused(out: &mut [u8], at: usize, number: u32) -> usize
     put_last(out, a, number)
 }
 
+fn put_free(out: &mut [u8], at: usize, n: u32) -> usize
+    requires { at + 50 ≤ length out.old }
+    ensures put { Put out.old at (line_closed (free_text n)) out.new result }
+    ensures upper_bound { result ≤ at + 50 }
+{
+    let a = printing::put(out, at, b"(free ");
+    put_last(out, a, n)
+}
+
+fn put_dropped(out: &mut [u8], at: usize, n: u32) -> usize
+    requires { at + 50 ≤ length out.old }
+    ensures put { Put out.old at (line_closed (dropped_text n)) out.new result }
+    ensures upper_bound { result ≤ at + 50 }
+{
+    let a = printing::put(out, at, b"(dropped ");
+    put_last(out, a, n)
+}
+
 fn put_begun(out: &mut [u8], at: usize, begun: Begun) -> usize
     requires { at + 50 ≤ length out.old }
     ensures put { Put out.old at (line_closed (begun_text begun)) out.new result }
@@ -111,7 +131,7 @@ fn put_begun(out: &mut [u8], at: usize, begun: Begun) -> usize
 }
 
 // value is what was read, where something was.
-fn put_reading(out: &mut [u8], at: usize, reading: Reading, value: &[u8]) -> usize
+fn put_reading(out: &mut [u8], at: usize, reading: Option<usize>, value: &[u8]) -> usize
     requires at_in_bounds { at + 50 ≤ length out.old }
     requires value_len_bound { length value.now ≤ 16 }
     ensures put { Put out.old at (line_closed (reading_text value.now reading))
@@ -119,12 +139,12 @@ fn put_reading(out: &mut [u8], at: usize, reading: Reading, value: &[u8]) -> usi
     ensures upper_bound { result ≤ at + 50 }
 {
     match reading {
-        Reading::Value(_) => {
+        Some(_) => {
             let a = printing::put(out, at, b"(value ");
             let b = printing::put_hex(out, a, value);
             printing::put(out, b, b"))\n")
         }
-        Reading::Unwritten => printing::put(out, at, b"(unwritten))\n"),
+        None => printing::put(out, at, b"(unwritten))\n"),
     }
 }
 
@@ -164,80 +184,85 @@ pub fn refused_line(out: &mut [u8], at: usize, form: Form, number: u32) -> usize
     put_refused(out, a, number)
 }
 
-pub fn free_line(out: &mut [u8], at: usize, form: Form, answer: FigureAnswer) -> usize
-    requires { at + answer_room ≤ length out.old }
-    ensures put { Put out.old at (line_text form (answer_text free_text (figure_of answer)))
-        out.new result }
+// The head, and what an answer says or why it is refused: say puts the text of what it is handed, closed.
+fn answer_line<T, F: FnOnce(&mut [u8], usize, T) -> usize>(
+    out: &mut [u8],
+    at: usize,
+    form: Form,
+    answer: Answer<T>,
+    say: F,
+) -> usize
+    requires room { at + answer_room ≤ length out.old }
+    requires callable { (o : _) (a : ℕ) (t : T) → a + 50 ≤ length o.now → F.pre say o a t }
+    requires bounded { (o : _) (a : ℕ) (t : T) (r : ℕ) (p : _) → a + 50 ≤ length o.now
+        → F.post say o a t r p → r ≤ a + 50 }
+    ensures put { (text : T → List ℕ)
+        → ((o : _) (a : ℕ) (t : T) (r : ℕ) (p : _) → a + 50 ≤ length o.now → F.post say o a t r p
+        → Put o.now a (line_closed (text t)) p.now r)
+        → Put out.old at (line_text form (answer_text text (answer_of answer))) out.new result }
     ensures upper_bound { result ≤ at + answer_room }
 {
     let a = put_head(out, at, form);
     match answer {
-        FigureAnswer::Answered(n) => {
-            let b = printing::put(out, a, b"(free ");
-            put_last(out, b, n)
-        }
-        FigureAnswer::Refused(r) => put_refused(out, a, telling::code_of(r)),
+        Ok(value) => say(out, a, value),
+        Err(r) => put_refused(out, a, telling::code_of(r)),
     }
 }
 
-pub fn dropped_line(out: &mut [u8], at: usize, form: Form, answer: FigureAnswer) -> usize
+pub fn free_line(out: &mut [u8], at: usize, form: Form, answer: Answer<u32>) -> usize
     requires { at + answer_room ≤ length out.old }
-    ensures put { Put out.old at (line_text form (answer_text dropped_text (figure_of answer)))
+    ensures put { Put out.old at (line_text form (answer_text free_text (answer_of answer)))
         out.new result }
     ensures upper_bound { result ≤ at + answer_room }
 {
-    let a = put_head(out, at, form);
-    match answer {
-        FigureAnswer::Answered(n) => {
-            let b = printing::put(out, a, b"(dropped ");
-            put_last(out, b, n)
-        }
-        FigureAnswer::Refused(r) => put_refused(out, a, telling::code_of(r)),
-    }
+    answer_line(out, at, form, answer, put_free)
 }
 
-pub fn begun_line(out: &mut [u8], at: usize, form: Form, answer: BeginAnswer) -> usize
+pub fn dropped_line(out: &mut [u8], at: usize, form: Form, answer: Answer<u32>) -> usize
     requires { at + answer_room ≤ length out.old }
-    ensures put { Put out.old at (line_text form (answer_text begun_text (begin_of answer)))
+    ensures put { Put out.old at (line_text form (answer_text dropped_text (answer_of answer)))
         out.new result }
     ensures upper_bound { result ≤ at + answer_room }
 {
-    let a = put_head(out, at, form);
-    match answer {
-        BeginAnswer::Answered(begun) => put_begun(out, a, begun),
-        BeginAnswer::Refused(r) => put_refused(out, a, telling::code_of(r)),
-    }
+    answer_line(out, at, form, answer, put_dropped)
+}
+
+pub fn begun_line(out: &mut [u8], at: usize, form: Form, answer: Answer<Begun>) -> usize
+    requires { at + answer_room ≤ length out.old }
+    ensures put { Put out.old at (line_text form (answer_text begun_text (answer_of answer)))
+        out.new result }
+    ensures upper_bound { result ≤ at + answer_room }
+{
+    answer_line(out, at, form, answer, put_begun)
 }
 
 pub fn reading_line(
     out: &mut [u8],
     at: usize,
     form: Form,
-    answer: ReadAnswer,
+    answer: Answer<Option<usize>>,
     value: &[u8],
 ) -> usize
     requires answer_room_in_bounds { at + answer_room ≤ length out.old }
     requires value_len_bound { length value.now ≤ 16 }
     ensures put { Put out.old at
-        (line_text form (answer_text (reading_text value.now) (read_of answer))) out.new result }
+        (line_text form (answer_text (reading_text value.now) (answer_of answer))) out.new result }
     ensures upper_bound { result ≤ at + answer_room }
 {
-    let a = put_head(out, at, form);
-    match answer {
-        ReadAnswer::Answered(reading) => put_reading(out, a, reading, value),
-        ReadAnswer::Refused(r) => put_refused(out, a, telling::code_of(r)),
-    }
+    answer_line(
+        out,
+        at,
+        form,
+        answer,
+        |o, a, reading| put_reading(o, a, reading, value),
+    )
 }
 
-pub fn progress_line(out: &mut [u8], at: usize, form: Form, answer: AdvanceAnswer) -> usize
+pub fn progress_line(out: &mut [u8], at: usize, form: Form, answer: Answer<Progress>) -> usize
     requires { at + answer_room ≤ length out.old }
-    ensures put { Put out.old at (line_text form (answer_text progress_text (advance_of answer)))
+    ensures put { Put out.old at (line_text form (answer_text progress_text (answer_of answer)))
         out.new result }
     ensures upper_bound { result ≤ at + answer_room }
 {
-    let a = put_head(out, at, form);
-    match answer {
-        AdvanceAnswer::Answered(progress) => put_progress(out, a, progress),
-        AdvanceAnswer::Refused(r) => put_refused(out, a, telling::code_of(r)),
-    }
+    answer_line(out, at, form, answer, put_progress)
 }

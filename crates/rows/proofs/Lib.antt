@@ -1,1 +1,1 @@
-mod Words
+mod Stored

@@ -8,16 +8,22 @@ ghost use Rattle.spec.specs.Rows.{value_of, commit_row, commit_number, commit_ta
 
 use spec::{COMMIT_ROW, DATA_ROW};
 
-fn wide(x: u8) -> u32
-    ensures { (result ≡ x) × (result < 256) }
+// The N bytes from index at.
+pub fn bytes_at<const N: usize>(s: &[u8], at: usize) -> [u8; N]
+    requires { at + N ≤ length s.now }
+    ensures { result ≡ part at N s.now }
 {
-    x as u32
+    let mut bytes = [0; N];
+    bytes.copy_from_slice(&s[at..at + N]);
+    bytes
 }
 
-fn short(x: u8) -> u16
-    ensures { (result ≡ x) × (result < 256) }
+// Stores bytes from index at on.
+pub fn put(s: &mut [u8], at: usize, bytes: &[u8])
+    requires { at + length bytes.now ≤ length s.old }
+    ensures { s.new ≡ spliced at bytes.now s.old }
 {
-    x as u16
+    s[at..at + bytes.len()].copy_from_slice(bytes);
 }
 
 // The little-endian number in the two bytes from index at.
@@ -25,7 +31,7 @@ fn u16_at(s: &[u8], at: usize) -> u16
     requires { at + 2 ≤ length s.now }
     ensures { result ≡ number (part at 2 s.now) }
 {
-    short(s[at]) + 256 * short(s[at + 1])
+    u16::from_le_bytes(bytes_at(s, at))
 }
 
 // The little-endian number in the four bytes from index at.
@@ -33,7 +39,7 @@ fn u32_at(s: &[u8], at: usize) -> u32
     requires { at + 4 ≤ length s.now }
     ensures { result ≡ number (part at 4 s.now) }
 {
-    wide(s[at]) + 256 * (wide(s[at + 1]) + 256 * (wide(s[at + 2]) + 256 * wide(s[at + 3])))
+    u32::from_le_bytes(bytes_at(s, at))
 }
 
 // Stores x in the four bytes from index at, lowest first.
@@ -41,63 +47,23 @@ fn put_u32(s: &mut [u8], at: usize, x: u32)
     requires { at + 4 ≤ length s.old }
     ensures { s.new ≡ spliced at (bytes_of 4 x) s.old }
 {
-    s[at] = (x % 256) as u8;
-    s[at + 1] = (x / 256 % 256) as u8;
-    s[at + 2] = (x / 256 / 256 % 256) as u8;
-    s[at + 3] = (x / 256 / 256 / 256 % 256) as u8;
+    put(s, at, &x.to_le_bytes());
 }
 
-// Eight bytes.
-pub fn word_at(buf: &[u8], at: usize) -> [u8; 8]
-    requires { at + 8 ≤ length buf.now }
-    ensures { result ≡ part at 8 buf.now }
-{
-    let a = buf[at];
-    let b = buf[at + 1];
-    let c = buf[at + 2];
-    let d = buf[at + 3];
-    let e = buf[at + 4];
-    let f = buf[at + 5];
-    let g = buf[at + 6];
-    let h = buf[at + 7];
-    [a, b, c, d, e, f, g, h]
-}
-
-pub fn put_word(buf: &mut [u8], at: usize, word: [u8; 8])
-    requires { at + 8 ≤ length buf.old }
-    ensures { buf.new ≡ spliced at word buf.old }
-{
-    buf[at] = word[0];
-    buf[at + 1] = word[1];
-    buf[at + 2] = word[2];
-    buf[at + 3] = word[3];
-    buf[at + 4] = word[4];
-    buf[at + 5] = word[5];
-    buf[at + 6] = word[6];
-    buf[at + 7] = word[7];
-}
-
-// Copies a value into dst from index at: all of it is read before any of it is stored.
+// Copies a value into dst from index at; its length is known to the compiler.
 fn put_value(dst: &mut [u8], at: usize, value: &[u8])
     requires at_in_bounds { at + 16 ≤ length dst.old }
     requires value_len { length value.now ≡ 16 }
     ensures { dst.new ≡ spliced at value.now dst.old }
 {
-    let a = word_at(value, 0);
-    let b = word_at(value, 8);
-    put_word(dst, at, a);
-    put_word(dst, at + 8, b);
+    put(dst, at, &bytes_at::<16>(value, 0));
 }
 
 // Makes every byte zero.
 pub fn clear(buf: &mut [u8])
     ensures { buf.new ≡ replicate (length buf.old) 0 }
 {
-    let mut i = 0;
-    while i < buf.len() {
-        buf[i] = 0;
-        i += 1;
-    }
+    buf.fill(0);
 }
 
 // ---- fields of row i
@@ -121,7 +87,7 @@ pub fn cell_at(rows: &[u8], i: usize) -> u32
     requires { data_width * i + 24 ≤ length rows.now }
     ensures { result ≡ cell_of (row_at data_width i rows.now) }
 {
-    short_cell_at(rows, i) as u32
+    u32::from(short_cell_at(rows, i))
 }
 
 // The value, as it stands in the buffer.

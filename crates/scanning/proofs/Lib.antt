@@ -1,2 +1,2 @@
-pub mod MovedBytes
 pub mod Newlines
+pub mod MovedBytes

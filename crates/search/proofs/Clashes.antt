@@ -5,12 +5,10 @@ use mathlib.Core.Path.{◌≡◌, refl, ap}
 use mathlib.Core.Bool.{Bool, true, false, true≢false}
 use mathlib.Core.List.{List, [], ◌∷◌, map}
 use lib.Dec.{eqb, ltb}
-use Rattle.std.specs.Prelude.{if◌then◌else◌}
+use Rattle.std.specs.Prelude.{if◌then◌else◌, None, Some}
 use Rattle.spec.specs.Rows.{Row, tag_of, cell_of, commit_number, commit_tag, row_at, rows_in, rows_from}
 use Rattle.spec.proofs.Rows.{rows_start, rows_step, rows_end}
-use Rattle.spec.specs.declared.Number.{Number}
-use Rattle.spec.specs.declared.Number.TheVariants.{Some, None}
-use Rattle.spec.specs.Numbers.{lesser, smallest, above}
+use Rattle.spec.specs.Numbers.{lesser, smallest, above, Number}
 use Rattle.spec.specs.Look.{commit_of}
 use Rattle.spec.specs.Share.{any, wrote, clash, conflict}
 use Rattle.numbers.proofs.Grouping.{lesser_assoc, lesser-none}
@@ -33,7 +31,7 @@ clash-none : (ds cs : List Row) (tag s : ℕ) (r : Row) → any (λ c. ltb s (co
 unfolding clash
 clash-none ds cs tag s r h = rw (above-none s (tag_of r) cs h) (go (wrote ds tag (cell_of r)))
   where
-    go : (t : Bool) → (if t then None else None) ≡ None
+    go : (t : Bool) → ◌≡◌ {A = Number} (if t then None else None) None
     go true = refl
     go false = refl
 

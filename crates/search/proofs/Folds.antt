@@ -10,11 +10,9 @@ use native.Mathlib.Numerals.{add-one}
 use native.Mathlib.Omega.{arith}
 use lib.Dec.{eqb}
 use borrow.Author.Tests.{eq-eqb, ne_eqb}
-use Rattle.std.specs.Prelude.{if◌then◌else◌}
+use Rattle.std.specs.Prelude.{if◌then◌else◌, None, Some}
 use Rattle.spec.specs.Rows.{Row, tag_of, cell_of, has_tag, commit_number, commit_tag, row_at, rows_in, rows_from}
 use Rattle.spec.proofs.Rows.{rows_start, rows_step, rows_end}
-use Rattle.spec.specs.declared.Number.TheVariants.{Some, None}
-use Rattle.spec.specs.declared.Found.TheVariants.{At, Missing}
 use Rattle.spec.specs.Look.{commit_of, is_own, find}
 use Rattle.spec.specs.Share.{any, count, wrote, cells_of}
 
@@ -69,7 +67,7 @@ module _ (p : Row → Bool) (w n i : ℕ) (s : List ℕ) where
   unfolding any
   any_end h = rw (rows_end w n i s h)
 
-  pub find_hit : i < n → p (row_at w i s) ≡ true → find p i (rows_from w n i s) ≡ At i
+  pub find_hit : i < n → p (row_at w i s) ≡ true → find p i (rows_from w n i s) ≡ Some i
   unfolding find
   find_hit h e = rw (rows_step w n i s h, e)
 
@@ -77,7 +75,7 @@ module _ (p : Row → Bool) (w n i : ℕ) (s : List ℕ) where
   unfolding find
   find_miss h e = rw (rows_step w n i s h, e)
 
-  pub find_end : n ≤ i → find p i (rows_from w n i s) ≡ Missing
+  pub find_end : n ≤ i → find p i (rows_from w n i s) ≡ None
   unfolding find
   find_end h = rw (rows_end w n i s h)
 

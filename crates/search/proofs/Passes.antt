@@ -5,11 +5,12 @@
 -- Assumes nothing.
 use Prim.Native.Nat.{ℕ, zero, suc, ◌+◌, ◌-◌, ◌≤◌, ◌<◌}
 use mathlib.Core.Path.{◌≡◌, refl, ◌∙◌}
+use mathlib.Core.Bool.{Bool, true, false}
 use native.Mathlib.Nat.{add-zero}
 use native.Mathlib.Decide.{dec_lt}
 use native.Mathlib.Omega.{arith}
 use borrow.Author.Count.{below_more}
-use Rattle.search.specs.Inner.{Next, Last}
+use Rattle.search.specs.Inner.{FirstBy, LastBy, Next, Last}
 
 carry_by : (P : ℕ → Type 0) (d from : ℕ) → ((k : ℕ) → from ≤ k → k < from + d → P k → P (k + 1)) → P from → P (from + d)
 carry_by P zero from more p = rw add-zero p
@@ -42,15 +43,7 @@ module _ {Hit : ℕ → Type 0} {from : ℕ} where
   pub past_none : {n : ℕ} → n ≡ from → Past Hit from n
   past_none e = record { start = omega arith; end = omega arith; misses = λ k l b h. omega arith; hit = λ l. absurd (omega arith) }
 
-  -- no row is a hit
-  pub nowhere : {n : ℕ} → from ≤ n → ((k : ℕ) → k < n → Hit k → ⊥) → Past Hit from n
-  nowhere h all = record { start = h; end = omega arith; misses = λ k l b. all k b; hit = λ l. absurd (omega arith) }
-
   module _ {i : ℕ} (pass : Past Hit from i) where
-    -- the same row by another name
-    pub past_same : {n : ℕ} → n ≡ i → Past Hit from n
-    past_same e = rw e pass
-
     pub past-miss : {n : ℕ} → n ≡ i + 1 → (Hit i → ⊥) → Past Hit from n
     past-miss e here =
         record {
@@ -98,8 +91,24 @@ module _ {Hit : ℕ → Type 0} {n : ℕ} where
   pub last_none : ((k : ℕ) → k < n → Hit k → ⊥) → Last Hit n 0
   last_none all = record { end = omega arith; misses = λ k l b. all k b; hit = λ h. absurd (omega arith) }
 
-  -- a hit, and none behind it
-  pub last_found : {i k : ℕ} → Past Hit i n → k + 1 ≡ i → Hit k → Last Hit n i
-  last_found {i = i} {k = k} pass e here =
-      let f : i - 1 ≡ k = omega arith in
-      record { end = pass.start; misses = pass.misses; hit = λ h. rw f here }
+-- ---- what a test's answers say of rows
+
+-- a pass finds the next hit, where the test holds of hits and of nothing else
+pub next_by : {Answers : ℕ → Bool → Type 0} {Hit : ℕ → Type 0} {from n r : ℕ} → FirstBy Answers from n r
+    → ((k : ℕ) → k < n → Answers k true → Hit k) → ((k : ℕ) → k < n → Answers k false → Hit k → ⊥) → Next Hit from n r
+next_by pass hits others =
+    record {
+      start = pass.start;
+      end = pass.end;
+      misses = λ k l b. others k (omega (arith, pass.end)) (pass.misses k l b);
+      hit = λ b. hits _ b (pass.hit b);
+    }
+
+pub last_by : {Answers : ℕ → Bool → Type 0} {Hit : ℕ → Type 0} {n r : ℕ} → LastBy Answers n r
+    → ((k : ℕ) → k < n → Answers k true → Hit k) → ((k : ℕ) → k < n → Answers k false → Hit k → ⊥) → Last Hit n r
+last_by pass hits others =
+    record {
+      end = pass.end;
+      misses = λ k l b. others k b (pass.misses k l b);
+      hit = λ b. hits _ (omega (arith, pass.end)) (pass.hit b);
+    }

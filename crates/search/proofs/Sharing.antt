@@ -40,9 +40,6 @@ abbrev pub JoinedBelow : ℕ → (ℕ → Bool) → ℕ → ℕ → Type 0
 JoinedBelow found p i out = (j : ℕ) → member out j ≡ (member found j || (ltb j i && p j))
 
 module _ (found : ℕ) (p : ℕ → Bool) where
-  pub joined_start : JoinedBelow found p 0 found
-  joined_start j = rw (le-ltb j 0 (omega arith), or-false)
-
   pub writers_more : (out i n : ℕ) → i < clients → n ≡ i + 1 → JoinedBelow found p i out → JoinedBelow found p n (if p i then insert clients out i else out)
   writers_more out i n h next all j = rw next (go (eqb j i) (p i) refl refl)
     where

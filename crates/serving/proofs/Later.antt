@@ -1,6 +1,8 @@
 -- Of orderly committed rows any later one has a larger number and another tag; so a row stays just if its cell is not served from the committed row
 -- behind its own on.
 -- Assumes nothing.
+use Rattle.spec.specs.Numbers.{Number}
+use Rattle.std.specs.Prelude.{None, Some}
 use Prim.Native.Nat.{ℕ, ◌+◌, ◌≤◌, ◌<◌}
 use mathlib.Core.Path.{◌≡◌, refl, sym, ap}
 use mathlib.Core.Bool.{Bool, true, not}
@@ -12,8 +14,6 @@ use borrow.Author.Tests.{ltb-true, leb-true, eqb-true, lt-ltb, le-leb, eq-eqb}
 use Rattle.spec.specs.Rows.{Row, row_at, rows_in, rows_from, tag_of, cell_of, commit_tag, commit_number}
 use Rattle.spec.specs.Look.{commit_of, is_own}
 use Rattle.spec.specs.Share.{any, wrote}
-use Rattle.spec.specs.declared.Number.{Number}
-use Rattle.spec.specs.declared.Number.TheVariants.{Some, None}
 use Rattle.orderly.proofs.Order.{differ, both_ways, if_left, if_right, some_from, some_in, from_at, rise, row_number, by-commit}
 use Rattle.search.proofs.Folds.{any_at, own_yes}
 use Rattle.spec.specs.Trim.{between, later, overtaken, stays}

@@ -112,24 +112,10 @@ pub fn serve_all(
         → Used low used entries rows.now commits.now 0 uses.new }
     ensures rows_value { result ≡ false → orderly_rows (data_rows_in used rows.now) ≡ false }
 {
-    let mut j = entries;
-    while 0 < j {
-        if serve(
-            rows,
-            used,
-            commits,
-            entries,
-            j - 1,
-            low,
-            firsts,
-            follows,
-            seen,
-            marks,
-            flags,
-            uses,
+    for j in (0..entries).rev() {
+        if !serve(
+            rows, used, commits, entries, j, low, firsts, follows, seen, marks, flags, uses,
         ) {
-            j -= 1;
-        } else {
             return false;
         }
     }

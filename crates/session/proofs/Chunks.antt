@@ -11,10 +11,9 @@ use lib.ListN.{length, take, drop, length-drop}
 use lib.Seq.{drop-drop}
 use lib.Dec.{eqb}
 use Rattle.spec.specs.Session.{answer_to, answers, memory_after}
-use Rattle.spec.specs.declared.Store.{Store}
-use Rattle.spec.specs.Bytes.{Memory, memory_of}
+use Rattle.spec.specs.Bytes.{Memory}
 use Rattle.scanning.specs.Inner.{newline_from}
-use Rattle.session.specs.Inner.{push, lines_of, unless_lines, rest_of, Fed}
+use Rattle.session.specs.Inner.{push, lines_of, unless_lines, rest_of}
 use Rattle.lines.specs.Inner.{Spoken}
 
 -- ---- the lines, one clause each
@@ -152,9 +151,3 @@ module _ (s : List ℕ) (from e : ℕ) (h : e ≡ newline_from from (drop from s
 
   pub state_more : (whole : Memory) → memory_after w (lines_of (drop from s)) ≡ whole → memory_after w' (lines_of (drop (e + 1) s)) ≡ whole
   state_more whole a = rw p.memory (rw (lines_at s from e h m l, after_cons) at a)
-
--- what a record apart was fed, it was fed by value
-pub fed_by_value : {i d c v d' c' v' out out' : List ℕ} {start at from used : ℕ} {s t s' t' : Store} → s ≡ t → s' ≡ t'
-    → Fed i start (memory_of s d c v) out at from (memory_of s' d' c' v') out' used
-    → Fed i start (memory_of t d c v) out at from (memory_of t' d' c' v') out' used
-fed_by_value e g r = rw (← e, ← g) r

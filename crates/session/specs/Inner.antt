@@ -4,13 +4,8 @@ use Rattle.std.specs.Prelude.{ℕ, ◌+◌, ◌≤◌, ◌<◌, List, [], ◌∷
 use Rattle.std.specs.Prelude.{if◌then◌else◌}
 use Rattle.spec.specs.Session.{memory_after, answers, initial}
 use Rattle.spec.specs.Bytes.{Memory}
-use denote.Triple.Both.{Both}
-use Rattle.spec.specs.Image.{Clients}
 use Rattle.printing.specs.Inner.{answer_room}
 use Rattle.scanning.specs.Inner.{newline_from, most_kept}
-use Rattle.record.specs.declared.Head.{Head}
-use Rattle.record.specs.Inner.{Lent, memory_found, memory_left}
-use Rattle.session.specs.declared.FeedResult.{FeedResult}
 
 -- ---- The lines of an input that end in a newline, and what stands behind the last of them.
 
@@ -46,11 +41,6 @@ pub record Fed (s : List ℕ) (start : ℕ) (w : Memory) (out : List ℕ) (at : 
     pub room : used ≤ length out'
     pub stopped : (length out' < used + answer_room) ⊎ (newline_from from (drop from s) ≡ length s)
     pub moved : (start < from) ⊎ ((from ≡ start) × (used ≡ at))
-
--- the same of numbers, columns, buffers, version table and text
-abbrev pub Feeds : List ℕ → ℕ → Head → Both Clients Clients → Lent → Lent → Lent → Lent → ℕ → FeedResult → Type 0
-Feeds s start h k d c v out at r =
-    Fed s start (memory_found h k d c v) out.entry.now at r.from (memory_left r.head k d c v) out.exit.now r.used
 
 -- w' is what all whole lines of s leave of w, and from a place on stands what is behind the last newline
 pub record Emptied (s : List ℕ) (w w' : Memory) (from : ℕ) : Type 0 where

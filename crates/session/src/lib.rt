@@ -3,31 +3,23 @@
 
 ghost use Rattle.std.specs.Prelude.{◌≤◌, length};
 ghost use Rattle.spec.specs.Bytes.{memory_of};
-ghost use Rattle.record.specs.Inner.{columns};
-ghost use Rattle.session.specs.Inner.{Fed, Feeds};
+ghost use Rattle.record.specs.Inner.{SameArrays, store_at};
+ghost use Rattle.session.specs.Inner.{Fed};
 
 use printing::ANSWER_ROOM;
-use record::Head;
-use spec::{CLIENTS, Set, Store, VERSIONS};
+use record::Record;
+use spec::{Store, VERSIONS};
 
-// The numbers that some lines leave, where the next line begins, and where the text ends.
+// Where the next line begins after some lines, and where the text ends.
 #[derive(Clone, Copy)]
-struct FeedResult {
-    head: Head,
-    from: usize,
-    used: usize,
+pub struct Chunked {
+    pub from: usize,
+    pub used: usize,
 }
 
 // Answers the whole lines of buf from a place on, while out has room for an answer.
 fn feed(
-    h: Head,
-    stage: &mut [u32; CLIENTS],
-    number: &mut [u32; CLIENTS],
-    snapshot: &mut [u32; CLIENTS],
-    request: &mut [u32; CLIENTS],
-    commit: &mut [u32; CLIENTS],
-    request_waits: &mut [Set; CLIENTS],
-    commit_waits: &mut [Set; CLIENTS],
+    r: &mut Record,
     buf: &[u8],
     start: usize,
     rows: &mut [u8],
@@ -35,75 +27,38 @@ fn feed(
     versions: &mut [u32; VERSIONS],
     out: &mut [u8],
     at: usize,
-) -> FeedResult
+) -> Chunked
     requires start_in_bounds { start ≤ length buf.now }
     requires at_in_bounds { at ≤ length out.old }
-    ensures { Feeds buf.now start h
-        (columns stage number snapshot request commit request_waits commit_waits) rows commits versions out at result }
+    ensures same { SameArrays r.old r.new }
+    ensures fed { Fed buf.now start
+        (memory_of (store_at r.old) rows.old commits.old versions.old)
+        out.old at result.from
+        (memory_of (store_at r.new) rows.new commits.new versions.new)
+        out.new result.used }
 {
-    let mut next = h;
     let mut from = start;
     let mut used = at;
     while from < buf.len() {
         if out.len() < ANSWER_ROOM {
-            return FeedResult {
-                head: next,
-                from,
-                used,
-            };
+            return Chunked { from, used };
         }
         if out.len() - ANSWER_ROOM < used {
-            return FeedResult {
-                head: next,
-                from,
-                used,
-            };
+            return Chunked { from, used };
         }
         let end = scanning::newline(buf, from);
         if buf.len() <= end {
-            return FeedResult {
-                head: next,
-                from,
-                used,
-            };
+            return Chunked { from, used };
         }
-        let done = lines::answer_line(
-            next,
-            stage,
-            number,
-            snapshot,
-            request,
-            commit,
-            request_waits,
-            commit_waits,
-            &buf[from..end],
-            rows,
-            commits,
-            versions,
-            out,
-            used,
-        );
-        next = done.head;
-        used = done.used;
+        used = lines::answer_line(r, &buf[from..end], rows, commits, versions, out, used);
         from = end + 1;
     }
-    FeedResult {
-        head: next,
-        from,
-        used,
-    }
+    Chunked { from, used }
 }
 
-#[derive(Clone, Copy)]
-pub struct Chunked {
-    pub store: Store,
-    pub from: usize,
-    pub used: usize,
-}
-
-// The same on a record by value, which comes apart and together once for all lines.
+// The same on a record that is lent whole: it comes apart once for all lines.
 pub fn chunk(
-    store: Store,
+    store: &mut Store,
     buf: &[u8],
     start: usize,
     rows: &mut [u8],
@@ -115,48 +70,23 @@ pub fn chunk(
     requires start_in_bounds { start ≤ length buf.now }
     requires at_in_bounds { at ≤ length out.old }
     ensures { Fed buf.now start
-        (memory_of store rows.old commits.old versions.old)
+        (memory_of store.old rows.old commits.old versions.old)
         out.old at result.from
-        (memory_of result.store rows.new commits.new versions.new)
+        (memory_of store.new rows.new commits.new versions.new)
         out.new result.used }
 {
-    let mut stage = store.stage;
-    let mut number = store.number;
-    let mut snapshot = store.snapshot;
-    let mut request = store.request;
-    let mut commit = store.commit;
-    let mut request_waits = store.request_waits;
-    let mut commit_waits = store.commit_waits;
-    let fed = feed(
-        record::head_of(store),
-        &mut stage,
-        &mut number,
-        &mut snapshot,
-        &mut request,
-        &mut commit,
-        &mut request_waits,
-        &mut commit_waits,
-        buf,
-        start,
-        rows,
-        commits,
-        versions,
-        out,
-        at,
-    );
-    let next = record::joined(
-        fed.head,
-        stage,
-        number,
-        snapshot,
-        request,
-        commit,
-        request_waits,
-        commit_waits,
-    );
-    Chunked {
-        store: next,
-        from: fed.from,
-        used: fed.used,
-    }
+    let mut r = Record {
+        head: record::head_of(store),
+        stage: &mut store.stage,
+        number: &mut store.number,
+        snapshot: &mut store.snapshot,
+        request: &mut store.request,
+        commit: &mut store.commit,
+        request_waits: &mut store.request_waits,
+        commit_waits: &mut store.commit_waits,
+    };
+    let fed = feed(&mut r, buf, start, rows, commits, versions, out, at);
+    let head = r.head;
+    record::renumber(store, head);
+    fed
 }

@@ -1,6 +1,7 @@
 -- Document 01's two queues, and the stages at which calls are answered, in accord with the definitions: what a call of client 0 finds and answers, at each
 -- of the stages 0 to 13 of another client, or of its own.
 -- Assumes nothing.
+use Rattle.std.specs.Prelude.{Some}
 use Prim.Native.Nat.{ℕ}
 use mathlib.Core.Path.{◌≡◌, refl}
 use mathlib.Core.List.{List, [], ◌∷◌, ◌++◌, map, flatten}
@@ -20,7 +21,6 @@ use Rattle.spec.specs.Steps.{list_commits, look_commits, add_commit, leave_commi
 use Rattle.spec.specs.Bytes.{Memory, decode, store_of, encode, known, fits, on_bytes}
 use Rattle.spec.specs.Answers.{Answer, Answered, Refused}
 use Rattle.spec.specs.Run.{Read, Write, Advance, Abandon, step}
-use Rattle.spec.specs.declared.Reading.TheVariants.{Value}
 use Rattle.spec.specs.declared.Progress.{Progress}
 use Rattle.spec.specs.declared.Progress.TheVariants.{Stage, Waiting}
 use Rattle.spec.proofs.AccordTable.{counting, sixteen, row, rubbish, three, none, counts, boxes, holds, finds}
@@ -104,7 +104,7 @@ alone g = those (three g 0 0) none none none none
 
 pub answered_at :
     (of_stages (λ g. (step (Abandon 0) (alone g)).answer) ≡ replicate 12 (Answered 3) ++ (Refused 7 ∷ Refused 7 ∷ []))
-    × (of_stages (λ g. (step (Read 0 7) (alone g)).answer) ≡ replicate 12 (Answered (Value 0)) ++ (Refused 7 ∷ Refused 7 ∷ []))
+    × (of_stages (λ g. (step (Read 0 7) (alone g)).answer) ≡ replicate 12 (Answered (Some 0)) ++ (Refused 7 ∷ Refused 7 ∷ []))
     × (of_stages (λ g. (step (Write 0 8 (sixteen 64)) (alone g)).answer) ≡ Answered 1 ∷ replicate 13 (Refused 7))
 unfolding
     flatten bit member insert remove size collect strike spliced number bytes_of data_row tag_of cell_of value_of with_value commit_row commit_number

@@ -1,5 +1,6 @@
 -- The papers' sentences on what Read finds and notes, in accord with the definitions: literal buffers and version tables, and the row that is read.
 -- Assumes nothing.
+use Rattle.std.specs.Prelude.{None, Some}
 use Prim.Native.Nat.{ℕ}
 use mathlib.Core.Path.{◌≡◌, refl}
 use mathlib.Core.List.{List, [], ◌∷◌, ◌++◌, map, flatten}
@@ -18,10 +19,8 @@ use Rattle.spec.specs.Steps.{queued, struck, others, go_on, enter, take_request,
 use Rattle.spec.specs.Steps.{list_commits, look_commits, add_commit, leave_commits, leave_requests, finished, advance}
 use Rattle.spec.specs.Bytes.{Memory, decode, store_of, encode, known, fits, on_bytes}
 use Rattle.spec.specs.Values.{value_read, value_from}
-use Rattle.spec.specs.Answers.{Answered, Refused}
+use Rattle.spec.specs.Answers.{Answered, Refused, Reading}
 use Rattle.spec.specs.Run.{Read, Advance, Trim}
-use Rattle.spec.specs.declared.Reading.{Reading}
-use Rattle.spec.specs.declared.Reading.TheVariants.{Value, Unwritten}
 use Rattle.spec.specs.declared.Progress.TheVariants.{Stage}
 use Rattle.spec.proofs.AccordTable.{sixteen, row, entry, rubbish, three, none, counts, Boxes, boxes, idle, holds, finds, leaves}
 use Rattle.spec.proofs.AccordTable.{entries, finds_with, Example, example, refusing, computed}
@@ -49,25 +48,25 @@ reads_in l = refusing "a table of another length" (Read 0 7) (full (replicate l 
 abbrev pub readings : List Example
 readings =
     -- "Read looks for a data row with the reader's tag and that cell": before any commit, and not in a row of that tag with another cell
-    reads 5 (row 1 7 16 ∷ row 9 8 32 ∷ row 9 7 48 ∷ []) (entry 5 1 ∷ entry 0 0 ∷ entry 0 0 ∷ []) (Value 2) 0
+    reads 5 (row 1 7 16 ∷ row 9 8 32 ∷ row 9 7 48 ∷ []) (entry 5 1 ∷ entry 0 0 ∷ entry 0 0 ∷ []) (Some 2) 0
     -- "failing that, for the row of that cell whose tag is committed with the largest commit number not above S": tags 1, 2, 3 are committed under
     -- 1, 2, 5, and tag 4, of the same cell, is not; rows and commits in any order
-    ∷ reads 0 (row 1 7 16 ∷ row 2 7 32 ∷ row 3 7 48 ∷ []) (entry 1 1 ∷ entry 2 2 ∷ entry 5 3 ∷ []) Unwritten 0
-    ∷ reads 1 (row 1 7 16 ∷ row 2 7 32 ∷ row 3 7 48 ∷ []) (entry 1 1 ∷ entry 2 2 ∷ entry 5 3 ∷ []) (Value 0) 1
-    ∷ reads 2 (row 1 7 16 ∷ row 2 7 32 ∷ row 3 7 48 ∷ []) (entry 1 1 ∷ entry 2 2 ∷ entry 5 3 ∷ []) (Value 1) 2
-    ∷ reads 4 (row 3 7 48 ∷ row 2 7 32 ∷ row 1 7 16 ∷ row 4 7 64 ∷ []) (entry 5 3 ∷ entry 2 2 ∷ entry 1 1 ∷ entry 0 0 ∷ []) (Value 1) 2
-    ∷ reads 5 (row 1 7 16 ∷ row 3 7 48 ∷ row 2 7 32 ∷ row 4 7 64 ∷ []) (entry 1 1 ∷ entry 2 2 ∷ entry 5 3 ∷ entry 0 0 ∷ []) (Value 1) 5
+    ∷ reads 0 (row 1 7 16 ∷ row 2 7 32 ∷ row 3 7 48 ∷ []) (entry 1 1 ∷ entry 2 2 ∷ entry 5 3 ∷ []) None 0
+    ∷ reads 1 (row 1 7 16 ∷ row 2 7 32 ∷ row 3 7 48 ∷ []) (entry 1 1 ∷ entry 2 2 ∷ entry 5 3 ∷ []) (Some 0) 1
+    ∷ reads 2 (row 1 7 16 ∷ row 2 7 32 ∷ row 3 7 48 ∷ []) (entry 1 1 ∷ entry 2 2 ∷ entry 5 3 ∷ []) (Some 1) 2
+    ∷ reads 4 (row 3 7 48 ∷ row 2 7 32 ∷ row 1 7 16 ∷ row 4 7 64 ∷ []) (entry 5 3 ∷ entry 2 2 ∷ entry 1 1 ∷ entry 0 0 ∷ []) (Some 1) 2
+    ∷ reads 5 (row 1 7 16 ∷ row 3 7 48 ∷ row 2 7 32 ∷ row 4 7 64 ∷ []) (entry 1 1 ∷ entry 2 2 ∷ entry 5 3 ∷ entry 0 0 ∷ []) (Some 1) 5
     -- "failing that it answers Unwritten": other cells, and a cell that is not committed
-    ∷ reads 5 (row 1 8 16 ∷ row 4 7 64 ∷ row 9 6 32 ∷ []) (entry 1 1 ∷ entry 0 0 ∷ entry 0 0 ∷ []) Unwritten 0
+    ∷ reads 5 (row 1 8 16 ∷ row 4 7 64 ∷ row 9 6 32 ∷ []) (entry 1 1 ∷ entry 0 0 ∷ entry 0 0 ∷ []) None 0
     -- "If the bytes hold several equal candidates, the first in row order counts": own rows, rows of one tag, and two tags under one number
-    ∷ reads 5 (row 1 7 16 ∷ row 9 7 32 ∷ row 9 7 48 ∷ []) (entry 5 1 ∷ entry 0 0 ∷ entry 0 0 ∷ []) (Value 1) 0
-    ∷ reads 5 (row 4 7 16 ∷ row 1 7 32 ∷ row 1 7 48 ∷ []) (entry 1 1 ∷ entry 0 0 ∷ entry 0 0 ∷ []) (Value 1) 1
-    ∷ reads 5 (row 4 7 16 ∷ row 2 7 32 ∷ row 1 7 48 ∷ []) (entry 3 1 ∷ entry 3 2 ∷ entry 0 0 ∷ []) (Value 1) 3
+    ∷ reads 5 (row 1 7 16 ∷ row 9 7 32 ∷ row 9 7 48 ∷ []) (entry 5 1 ∷ entry 0 0 ∷ entry 0 0 ∷ []) (Some 1) 0
+    ∷ reads 5 (row 4 7 16 ∷ row 1 7 32 ∷ row 1 7 48 ∷ []) (entry 1 1 ∷ entry 0 0 ∷ entry 0 0 ∷ []) (Some 1) 1
+    ∷ reads 5 (row 4 7 16 ∷ row 2 7 32 ∷ row 1 7 48 ∷ []) (entry 3 1 ∷ entry 3 2 ∷ entry 0 0 ∷ []) (Some 1) 3
     -- "and of several committed rows with one tag the first alone": tag 1 is committed under 1 and not under 3; and under 5, which is above S, and
     -- not under 1
-    ∷ reads 3 (row 1 7 16 ∷ row 2 7 32 ∷ row 4 7 48 ∷ []) (entry 1 1 ∷ entry 3 1 ∷ entry 2 2 ∷ []) (Value 1) 2
-    ∷ reads 3 (row 2 7 32 ∷ row 1 7 16 ∷ row 4 7 48 ∷ []) (entry 3 1 ∷ entry 1 1 ∷ entry 2 2 ∷ []) (Value 1) 3
-    ∷ reads 3 (row 1 7 16 ∷ row 4 7 48 ∷ []) (entry 5 1 ∷ entry 1 1 ∷ []) Unwritten 0
+    ∷ reads 3 (row 1 7 16 ∷ row 2 7 32 ∷ row 4 7 48 ∷ []) (entry 1 1 ∷ entry 3 1 ∷ entry 2 2 ∷ []) (Some 1) 2
+    ∷ reads 3 (row 2 7 32 ∷ row 1 7 16 ∷ row 4 7 48 ∷ []) (entry 3 1 ∷ entry 1 1 ∷ entry 2 2 ∷ []) (Some 1) 3
+    ∷ reads 3 (row 1 7 16 ∷ row 4 7 48 ∷ []) (entry 5 1 ∷ entry 1 1 ∷ []) None 0
     -- the same number in the check, by client 0 with S 2 at stage 5: tag 1 is not committed above it
     ∷ record {
       name = "a check";
@@ -101,29 +100,29 @@ abbrev pub tabled : List Example
 tabled =
     -- "looks only at commits from the entry up to S if the entry is at most S", both ends included: the entry's own commit is found, and one numbered below
     -- the entry is not, which only bytes that no reads led to can show
-    reads_by 2 4 old numbered (Value 1) 2
-    ∷ reads_by 5 5 old numbered (Value 2) 5
-    ∷ reads_by 3 4 old numbered Unwritten 3
-    ∷ reads_by 2 2 (row 1 7 16 ∷ []) (entry 1 1 ∷ []) Unwritten 2
+    reads_by 2 4 old numbered (Some 1) 2
+    ∷ reads_by 5 5 old numbered (Some 2) 5
+    ∷ reads_by 3 4 old numbered None 3
+    ∷ reads_by 2 2 (row 1 7 16 ∷ []) (entry 1 1 ∷ []) None 2
     -- "and at all up to S otherwise": the entry is above S, and does not fall
-    ∷ reads_by 5 4 old numbered (Value 1) 5
-    ∷ reads_by 3 2 old numbered (Value 1) 3
-    ∷ reads_by 2 1 old numbered (Value 0) 2
-    ∷ reads_by 4294967295 0 old numbered Unwritten 4294967295
+    ∷ reads_by 5 4 old numbered (Some 1) 5
+    ∷ reads_by 3 2 old numbered (Some 1) 3
+    ∷ reads_by 2 1 old numbered (Some 0) 2
+    ∷ reads_by 4294967295 0 old numbered None 4294967295
     -- "If it finds a commit above the entry, it stores that there": the commit, and not S
-    ∷ reads_by 0 4 old numbered (Value 1) 2
-    ∷ reads_by 1 4 old numbered (Value 1) 2
-    ∷ reads_by 2 5 old numbered (Value 2) 5
+    ∷ reads_by 0 4 old numbered (Some 1) 2
+    ∷ reads_by 1 4 old numbered (Some 1) 2
+    ∷ reads_by 2 5 old numbered (Some 2) 5
     -- "A read that isn't of its own write": an own write is found whatever the entry, and leaves it
-    ∷ reads_by 0 5 (row 9 7 16 ∷ row 3 7 32 ∷ []) (entry 5 3 ∷ entry 0 0 ∷ []) (Value 0) 0
-    ∷ reads_by 2 5 (row 9 7 16 ∷ row 3 7 32 ∷ []) (entry 5 3 ∷ entry 0 0 ∷ []) (Value 0) 2
-    ∷ reads_by 8 5 (row 9 7 16 ∷ row 3 7 32 ∷ []) (entry 5 3 ∷ entry 0 0 ∷ []) (Value 0) 8
+    ∷ reads_by 0 5 (row 9 7 16 ∷ row 3 7 32 ∷ []) (entry 5 3 ∷ entry 0 0 ∷ []) (Some 0) 0
+    ∷ reads_by 2 5 (row 9 7 16 ∷ row 3 7 32 ∷ []) (entry 5 3 ∷ entry 0 0 ∷ []) (Some 0) 2
+    ∷ reads_by 8 5 (row 9 7 16 ∷ row 3 7 32 ∷ []) (entry 5 3 ∷ entry 0 0 ∷ []) (Some 0) 8
     -- a cell that is unwritten at S leaves it too
-    ∷ reads_by 0 0 old numbered Unwritten 0
-    ∷ reads_by 1 5 (row 4 7 16 ∷ row 1 8 32 ∷ []) (entry 1 1 ∷ entry 0 0 ∷ []) Unwritten 1
+    ∷ reads_by 0 0 old numbered None 0
+    ∷ reads_by 1 5 (row 4 7 16 ∷ row 1 8 32 ∷ []) (entry 1 1 ∷ entry 0 0 ∷ []) None 1
     -- "of several committed rows with one tag the first alone", for the entry as for S: tag 1 is committed under 1, and not under 3
-    ∷ reads_by 2 5 (row 1 7 16 ∷ row 4 7 32 ∷ []) (entry 1 1 ∷ entry 3 1 ∷ []) Unwritten 2
-    ∷ reads_by 2 5 (row 1 7 16 ∷ row 4 7 32 ∷ []) (entry 3 1 ∷ entry 1 1 ∷ []) (Value 0) 3
+    ∷ reads_by 2 5 (row 1 7 16 ∷ row 4 7 32 ∷ []) (entry 1 1 ∷ entry 3 1 ∷ []) None 2
+    ∷ reads_by 2 5 (row 1 7 16 ∷ row 4 7 32 ∷ []) (entry 3 1 ∷ entry 1 1 ∷ []) (Some 0) 3
     -- "one entry for each of the 1,024 cells": with any other number of them the store is unfit, and the read is refused with 2
     ∷ reads_in 0
     ∷ reads_in 7
@@ -151,7 +150,7 @@ what_is_read = refl
 -- bytes stand behind the last), and none for other answers
 pub bytes_read_lem :
     map (value_from (row 1 7 16 ++ row 2 7 32 ++ row 3 7 48 ++ rubbish 23))
-    (Answered (Value 1) ∷ Answered (Value 2) ∷ Answered (Value 3) ∷ Answered (Value 4) ∷ Answered Unwritten ∷ Refused 6 ∷ [])
+    (Answered (Some 1) ∷ Answered (Some 2) ∷ Answered (Some 3) ∷ Answered (Some 4) ∷ Answered None ∷ Refused 6 ∷ [])
     ≡ (32 ∷ 33 ∷ 34 ∷ 35 ∷ 36 ∷ 37 ∷ 38 ∷ 39 ∷ 40 ∷ 41 ∷ 42 ∷ 43 ∷ 44 ∷ 45 ∷ 46 ∷ 47 ∷ []) ∷ sixteen 48 ∷ [] ∷ [] ∷ [] ∷ [] ∷ []
 unfolding value_from value_read value_of row_at
 bytes_read_lem = refl

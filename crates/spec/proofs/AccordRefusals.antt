@@ -5,7 +5,7 @@ use mathlib.Core.Path.{◌≡◌, refl, ap, sym, ◌∙◌}
 use mathlib.Core.List.{List, [], ◌∷◌, ◌++◌, map, flatten}
 use lib.ListN.{replicate}
 use lib.Dec.{eqb}
-use Rattle.std.specs.Prelude.{if◌then◌else◌}
+use Rattle.std.specs.Prelude.{if◌then◌else◌, None, Some, Ok, Err}
 use Rattle.spec.specs.Set.{bit, member, insert, remove, size, collect, strike}
 use Rattle.spec.specs.Rows.{spliced, number, bytes_of, data_row, tag_of, cell_of, value_of, with_value, commit_row, commit_number, commit_tag}
 use Rattle.spec.specs.Rows.{row_at, rows_in, rows_from, layout, filter, has_tag}
@@ -19,20 +19,14 @@ use Rattle.spec.specs.Calls.{free, begun, begin, read, replaced, added, write, r
 use Rattle.spec.specs.Steps.{queued, struck, others, go_on, enter, take_request, list_requests, looked, look_requests, check, take_commit}
 use Rattle.spec.specs.Steps.{list_commits, look_commits, add_commit, leave_commits, leave_requests, finished, advance}
 use Rattle.spec.specs.Bytes.{Memory, decode, store_of, encode, known, fits, on_bytes}
-use Rattle.spec.specs.Answers.{Answered, Refused, no_form, code, figure_of, begin_of, read_of, advance_of}
+use Rattle.spec.specs.Answers.{Answered, Refused, no_form, code, answer_of, Reading}
 use Rattle.spec.specs.Run.{Call, Begin, Read, Write, Advance, Abandon, Trim, Free, refusals}
 use Rattle.spec.specs.declared.Refusal.{Refusal}
 use Rattle.spec.specs.declared.Refusal.TheVariants.{BadSetUp, Unfit, NoClient, NoCell, AlreadyOpen, NotOpen, WrongStage}
 use Rattle.spec.specs.declared.Refusal.TheVariants.{NumbersUsedUp, CellLimit, NoFreeRow, WrongLength}
 use Rattle.spec.specs.declared.Begun.{Begun}
-use Rattle.spec.specs.declared.Reading.{Reading}
-use Rattle.spec.specs.declared.Reading.TheVariants.{Value, Unwritten}
 use Rattle.spec.specs.declared.Progress.{Progress}
 use Rattle.spec.specs.declared.Progress.TheVariants.{Stage}
-use Rattle.spec.specs.declared.FigureAnswer.TheVariants as figure
-use Rattle.spec.specs.declared.BeginAnswer.TheVariants as begun
-use Rattle.spec.specs.declared.ReadAnswer.TheVariants as reading
-use Rattle.spec.specs.declared.AdvanceAnswer.TheVariants as advanced
 use Rattle.spec.proofs.AccordTable.{counting, sixteen, row, entry, rubbish, three, none, Counts, counts, Boxes, boxes, idle, holds}
 use Rattle.spec.proofs.AccordTable.{finds, leaves, Example, example, refusing, computed}
 
@@ -83,15 +77,11 @@ code_injective a b e = sym (case_of_code a) ∙ (ap case_of e ∙ case_of_code b
 -- "Where an answer is an enum, a definition gives this paper's number and values for each case of the enum": an answer is its value, and a refusal the
 -- number of its case
 pub answers_by_value : (n : ℕ) (b : Begun) (g : Reading) (p : Progress)
-    → (figure_of (figure.Answered n) ≡ Answered n) × (begin_of (begun.Answered b) ≡ Answered b) × (read_of (reading.Answered g) ≡ Answered g)
-    × (advance_of (advanced.Answered p) ≡ Answered p)
+    → (answer_of (Ok n) ≡ Answered n) × (answer_of (Ok b) ≡ Answered b) × (answer_of (Ok g) ≡ Answered g) × (answer_of (Ok p) ≡ Answered p)
 answers_by_value n b g p = (refl, refl, refl, refl)
 
-pub refusals_by_number : (r : Refusal)
-    → (figure_of (figure.Refused r) ≡ Refused (code r)) × (begin_of (begun.Refused r) ≡ Refused (code r)) ×
-    (read_of (reading.Refused r) ≡ Refused (code r))
-    × (advance_of (advanced.Refused r) ≡ Refused (code r))
-refusals_by_number r = (refl, refl, refl, refl)
+pub refusals_by_number : {A : Type 0} (r : Refusal) → answer_of {A = A} (Err r) ≡ Refused (code r)
+refusals_by_number r = refl
 
 -- "Begin: 2, 3, 5, 8", "Read: 2, 3, 4, 6, 7", "Write: 2, 3, 4, 12, 6, 7; then [..] 9 [..], 10", "Advance: 2, 3, 6" without 11, "Abandon: 2, 3, 6, 7",
 -- "Trim and Free: 2"
@@ -256,7 +246,7 @@ answered_at_bounds =
       after = leaves (committing 12 2 3 (entry 1 8 ++ entry 3 1)) (Stage 12);
     }
     -- the last cell is read, and written
-    ∷ example "cell 1,023 read" (Read 0 1023) (two few (client 0 1)) (leaves (two few (client 0 1)) Unwritten)
+    ∷ example "cell 1,023 read" (Read 0 1023) (two few (client 0 1)) (leaves (two few (client 0 1)) None)
     ∷ record {
       name = "cell 1,023 written";
       call = Write 0 1023 value;
@@ -271,8 +261,8 @@ answered_at_bounds =
       after = leaves (finds (holds 3 2 3 0 few (client 0 1)) (row 1 7 16 ++ row 1 7 32 ++ row 1 8 64) (rubbish 24)) 0;
     }
     -- Read and Abandon are answered at stages 1 and 11
-    ∷ example "a read at 1" (Read 0 7) (two few (client 1 1)) (leaves (two few (client 1 1)) (Value 0))
-    ∷ example "a read at 11" (Read 0 7) (two few (client 11 1)) (leaves (two few (client 11 1)) (Value 0))
+    ∷ example "a read at 1" (Read 0 7) (two few (client 1 1)) (leaves (two few (client 1 1)) (Some 0))
+    ∷ example "a read at 11" (Read 0 7) (two few (client 11 1)) (leaves (two few (client 11 1)) (Some 0))
     ∷ record {
       name = "an abandoning at 1";
       call = Abandon 0;

@@ -1,6 +1,6 @@
 -- Answers in document 01's terms: a refusal by its number, or what the call gives; and which of these each answer of the code is.
 -- Assumes nothing.
-use Rattle.std.specs.Prelude.{ℕ}
+use Rattle.std.specs.Prelude.{ℕ, Option, Result, Ok, Err}
 use Rattle.spec.specs.declared.Refusal.{Refusal}
 use Rattle.spec.specs.declared.Refusal.TheVariants.{
   BadSetUp,
@@ -15,22 +15,15 @@ use Rattle.spec.specs.declared.Refusal.TheVariants.{
   NoFreeRow,
   WrongLength,
 }
-use Rattle.spec.specs.declared.Begun.{Begun}
-use Rattle.spec.specs.declared.Reading.{Reading}
-use Rattle.spec.specs.declared.Progress.{Progress}
-use Rattle.spec.specs.declared.FigureAnswer.{FigureAnswer}
-use Rattle.spec.specs.declared.FigureAnswer.TheVariants as figure
-use Rattle.spec.specs.declared.BeginAnswer.{BeginAnswer}
-use Rattle.spec.specs.declared.BeginAnswer.TheVariants as begin
-use Rattle.spec.specs.declared.ReadAnswer.{ReadAnswer}
-use Rattle.spec.specs.declared.ReadAnswer.TheVariants as read
-use Rattle.spec.specs.declared.AdvanceAnswer.{AdvanceAnswer}
-use Rattle.spec.specs.declared.AdvanceAnswer.TheVariants as advance
 
 -- the answer of a call that gives an A
 pub data Answer (A : Type 0) : Type 0 where
   Answered : A → Answer A
   Refused : ℕ → Answer A
+
+-- what Read gives: the data row in which the value stands, none for an unwritten cell
+abbrev pub Reading : Type 0
+Reading = Option ℕ
 
 -- ---- "Refusal by operation": the numbers, under names
 
@@ -88,18 +81,7 @@ code CellLimit = cell_limit
 code NoFreeRow = no_free_row
 code WrongLength = wrong_length
 
-abbrev pub figure_of : FigureAnswer → Answer ℕ
-figure_of (figure.Answered n) = Answered n
-figure_of (figure.Refused r) = Refused (code r)
-
-abbrev pub begin_of : BeginAnswer → Answer Begun
-begin_of (begin.Answered b) = Answered b
-begin_of (begin.Refused r) = Refused (code r)
-
-abbrev pub read_of : ReadAnswer → Answer Reading
-read_of (read.Answered g) = Answered g
-read_of (read.Refused r) = Refused (code r)
-
-abbrev pub advance_of : AdvanceAnswer → Answer Progress
-advance_of (advance.Answered p) = Answered p
-advance_of (advance.Refused r) = Refused (code r)
+-- an answer of the code
+abbrev pub answer_of : {A : Type 0} → Result A Refusal → Answer A
+answer_of (Ok a) = Answered a
+answer_of (Err r) = Refused (code r)

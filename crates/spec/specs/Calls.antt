@@ -2,23 +2,16 @@
 -- in which document 01 gives the refusals, and a refused call leaves the image as it is. Refusal 2 for an unfit store comes before all of
 -- these, in Bytes.antt; a Read is also unfit for its version table. Client k, cell x, value v. The steps of Advance are in Steps.antt.
 -- Assumes nothing.
-use Rattle.std.specs.Prelude.{ℕ, zero, suc, ◌+◌, ◌-◌, not, List, [], ◌∷◌, ◌++◌, length, get_or, set, leb, ltb, eqb}
+use Rattle.spec.specs.Answers.{Reading}
+use Rattle.std.specs.Prelude.{ℕ, zero, suc, ◌+◌, ◌-◌, not, List, [], ◌∷◌, ◌++◌, length, get_or, set, leb, ltb, eqb, None, Some}
 use Rattle.std.specs.Prelude.{if◌then◌else◌}
 use Rattle.spec.specs.Set.{clients}
 use Rattle.spec.specs.Rows.{cells, Row, data_row, with_value, filter, has_tag}
-use Rattle.spec.specs.declared.Number.{Number}
-use Rattle.spec.specs.declared.Number.TheVariants.{Some, None}
-use Rattle.spec.specs.declared.Found.{Found}
-use Rattle.spec.specs.declared.Found.TheVariants.{At, Missing}
-use Rattle.spec.specs.declared.Lookup.{Lookup}
-use Rattle.spec.specs.declared.Lookup.TheVariants.{Version, Nothing}
-use Rattle.spec.specs.Numbers.{top, smallest}
-use Rattle.spec.specs.Look.{is_own, find, look_from, look_for, versions_after}
+use Rattle.spec.specs.Numbers.{top, smallest, Number}
+use Rattle.spec.specs.Look.{is_own, find, look_from, look_for, versions_after, Found, Lookup}
 use Rattle.spec.specs.Share.{cells_of}
 use Rattle.spec.specs.Trim.{trimmed_rows, trimmed_commits}
 use Rattle.spec.specs.declared.Begun.{Begun}
-use Rattle.spec.specs.declared.Reading.{Reading}
-use Rattle.spec.specs.declared.Reading.TheVariants.{Value, Unwritten}
 use Rattle.spec.specs.Answers.{
   Answer,
   Answered,
@@ -81,8 +74,8 @@ begin k i =
 -- by the version table, where what it finds is noted; the table is a lent buffer, unfit (2) where it has not "one entry for each of the 1,024 cells".
 
 abbrev pub reading : Lookup → Reading
-reading (Version at n) = Value at
-reading Nothing = Unwritten
+reading (Some f) = Some f.at
+reading None = None
 
 -- the row that client k finds for cell x; and "the full look", at all commits up to S, whatever the cell's entry
 abbrev pub look_of : ℕ → ℕ → Image → Lookup
@@ -117,8 +110,8 @@ added k x v i =
     replies_free (with_rows i (i.data_rows ++ (data_row (number_of i k) x v ∷ [])) i.commit_rows)
 
 abbrev pub stored : Found → ℕ → ℕ → List ℕ → Image → Outcome ℕ
-stored (At j) k x v i = replaced j v i
-stored Missing k x v i = added k x v i
+stored (Some j) k x v i = replaced j v i
+stored None k x v i = added k x v i
 
 unfoldable pub write : ℕ → ℕ → List ℕ → Image → Outcome ℕ
 write k x v i =

@@ -3,16 +3,22 @@
 -- hold several equal candidates, the first in row order counts, and of several committed rows with one tag the first alone."
 -- Data rows are ds, committed rows cs.
 -- Assumes nothing.
-use Rattle.std.specs.Prelude.{ℕ, ◌+◌, Bool, false, List, [], ◌∷◌, eqb, leb, ltb, get_or, set}
+use Rattle.std.specs.Prelude.{ℕ, ◌+◌, Bool, false, List, [], ◌∷◌, eqb, leb, ltb, get_or, set, Option, Some, None}
 use Rattle.std.specs.Prelude.{if◌then◌else◌}
 use Rattle.spec.specs.Rows.{Row, tag_of, cell_of, commit_number, commit_tag}
-use Rattle.spec.specs.declared.Number.{Number}
-use Rattle.spec.specs.declared.Number.TheVariants.{Some, None}
-use Rattle.spec.specs.declared.Found.{Found}
-use Rattle.spec.specs.declared.Found.TheVariants.{At, Missing}
-use Rattle.spec.specs.declared.Lookup.{Lookup}
-use Rattle.spec.specs.declared.Lookup.TheVariants.{Version, Nothing}
-use Rattle.spec.specs.Numbers.{at_least, up_to}
+use Rattle.spec.specs.declared.Version.{Version}
+use Rattle.spec.specs.Numbers.{Number, at_least, up_to}
+
+-- where a row is, if there is one
+abbrev pub Found : Type 0
+Found = Option ℕ
+
+-- a data row and the number that it is committed under (0 for an own write), if there is one
+abbrev pub Lookup : Type 0
+Lookup = Option Version
+
+abbrev pub version : ℕ → ℕ → Version
+version i n = record { at = i; number = n }
 
 -- the number that a tag is committed under, none if it is not
 unfoldable pub commit_of : ℕ → List Row → Number
@@ -25,8 +31,8 @@ is_own tag cell r = if eqb (tag_of r) tag then eqb (cell_of r) cell else false
 
 -- of rows numbered from i on, the first that passes
 unfoldable pub find : (Row → Bool) → ℕ → List Row → Found
-find p i [] = Missing
-find p i (r ∷ rs) = if p r then At i else find p (i + 1) rs
+find p i [] = None
+find p i (r ∷ rs) = if p r then Some i else find p (i + 1) rs
 
 -- the number that a data row of that cell is committed under, where that is not above s
 unfoldable pub version_of : ℕ → ℕ → List Row → Row → Number
@@ -34,24 +40,24 @@ version_of cell s cs r = if eqb (cell_of r) cell then up_to s (commit_of (tag_of
 
 -- the one with the larger number, and the first of equals
 unfoldable pub newer : Lookup → Lookup → Lookup
-newer Nothing b = b
-newer (Version i m) Nothing = Version i m
-newer (Version i m) (Version j n) = if ltb m n then Version j n else Version i m
+newer None b = b
+newer (Some a) None = Some a
+newer (Some a) (Some b) = if ltb a.number b.number then Some b else Some a
 
 -- row i under that number, if there is one
 unfoldable pub version_at : ℕ → Number → Lookup
-version_at i None = Nothing
-version_at i (Some n) = Version i n
+version_at i None = None
+version_at i (Some n) = Some (version i n)
 
 -- of rows numbered from i on, the one with the largest number
 unfoldable pub newest : (Row → Number) → ℕ → List Row → Lookup
-newest f i [] = Nothing
+newest f i [] = None
 newest f i (r ∷ rs) = newer (version_at i (f r)) (newest f (i + 1) rs)
 
 -- the own row, which stands under no commit number, else the other one
 unfoldable pub own_or : Found → Lookup → Lookup
-own_or (At i) other = Version i 0
-own_or Missing other = other
+own_or (Some i) other = Some (version i 0)
+own_or None other = other
 
 -- the row that a reader with that tag and snapshot finds
 unfoldable pub look_for : ℕ → ℕ → ℕ → List Row → List Row → Lookup
@@ -75,5 +81,5 @@ look_from e tag cell s ds cs = own_or (find (is_own tag cell) 0 ds) (newest (ver
 
 -- "If it finds a commit above the entry, it stores that there." An own write stands under no commit number, and is stored nowhere
 unfoldable pub versions_after : ℕ → Lookup → List ℕ → List ℕ
-versions_after cell Nothing v = v
-versions_after cell (Version i n) v = if ltb (get_or v cell 0) n then set v cell n else v
+versions_after cell None v = v
+versions_after cell (Some f) v = if ltb (get_or v cell 0) f.number then set v cell f.number else v

@@ -1,9 +1,11 @@
 -- A number or none, and the smallest of several.
 -- Assumes nothing.
-use Rattle.std.specs.Prelude.{ℕ, List, [], ◌∷◌, ltb, leb}
+use Rattle.std.specs.Prelude.{ℕ, List, [], ◌∷◌, ltb, leb, Option, Some, None}
 use Rattle.std.specs.Prelude.{if◌then◌else◌}
-use Rattle.spec.specs.declared.Number.{Number}
-use Rattle.spec.specs.declared.Number.TheVariants.{Some, None}
+
+-- a number, if there is one
+abbrev pub Number : Type 0
+Number = Option ℕ
 
 -- the largest number of 32 bits
 abbrev pub top : ℕ

@@ -3,9 +3,8 @@
 use Rattle.std.specs.Prelude.{ℕ}
 use mathlib.Core.List.{List, [], ◌∷◌, Memᴰ}
 use Rattle.spec.specs.declared.Begun.{Begun}
-use Rattle.spec.specs.declared.Reading.{Reading}
 use Rattle.spec.specs.declared.Progress.{Progress}
-use Rattle.spec.specs.Answers.{Answer, Answered, Refused}
+use Rattle.spec.specs.Answers.{Answer, Answered, Refused, Reading}
 use Rattle.spec.specs.Image.{Image}
 use Rattle.spec.specs.Calls.{Outcome, free, begin, read, write, abandon, trim}
 use Rattle.spec.specs.Steps.{advance}

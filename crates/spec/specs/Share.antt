@@ -2,12 +2,10 @@
 -- tags of data rows").
 -- Data rows are ds, committed rows cs.
 -- Assumes nothing.
-use Rattle.std.specs.Prelude.{ℕ, ◌+◌, Bool, true, false, List, [], ◌∷◌, map}
+use Rattle.std.specs.Prelude.{ℕ, ◌+◌, Bool, true, false, List, [], ◌∷◌, map, None}
 use Rattle.std.specs.Prelude.{if◌then◌else◌}
 use Rattle.spec.specs.Rows.{Row, tag_of, cell_of, has_tag}
-use Rattle.spec.specs.declared.Number.{Number}
-use Rattle.spec.specs.declared.Number.TheVariants.{None}
-use Rattle.spec.specs.Numbers.{smallest, above}
+use Rattle.spec.specs.Numbers.{smallest, above, Number}
 use Rattle.spec.specs.Look.{commit_of, is_own}
 
 -- some row passes

@@ -1,12 +1,10 @@
 -- Advance on an image: "Each call of Advance takes the one step that its stage calls for" (document 01, "A transaction", the table of stages).
 -- Client k.
 -- Assumes nothing.
-use Rattle.std.specs.Prelude.{ℕ, ◌+◌, Bool, true, false, not, ◌&&◌, List, [], ◌∷◌, ◌++◌, length, get_or, leb, ltb, eqb}
+use Rattle.std.specs.Prelude.{ℕ, ◌+◌, Bool, true, false, not, ◌&&◌, List, [], ◌∷◌, ◌++◌, length, get_or, leb, ltb, eqb, None, Some}
 use Rattle.std.specs.Prelude.{if◌then◌else◌}
 use Rattle.spec.specs.Set.{clients, size, member, collect, strike}
 use Rattle.spec.specs.Rows.{commit_row, has_tag}
-use Rattle.spec.specs.declared.Number.{Number}
-use Rattle.spec.specs.declared.Number.TheVariants.{Some, None}
 use Rattle.spec.specs.Share.{any, shares, conflict}
 use Rattle.spec.specs.declared.Queue.{Queue}
 use Rattle.spec.specs.declared.Progress.{Progress}
@@ -34,7 +32,7 @@ use Rattle.spec.specs.Image.{
   is_open,
 }
 use Rattle.spec.specs.Calls.{Outcome, replies, refuse, removed}
-use Rattle.spec.specs.Numbers.{top}
+use Rattle.spec.specs.Numbers.{top, Number}
 
 -- ---- the two queues: who is in one, and whose number is noted, is read off the stage
 

@@ -1,16 +1,14 @@
 -- The plain table of document 01 ("The plain table"). It is fed the calls, their arguments and their answers, never the record or the buffers.
 -- Client k, cell x, value v.
 -- Assumes nothing.
-use Rattle.std.specs.Prelude.{ℕ, ◌+◌, Bool, true, false, List, [], ◌∷◌, ◌++◌, length, get_or, eqb}
+use Rattle.std.specs.Prelude.{ℕ, ◌+◌, Bool, true, false, List, [], ◌∷◌, ◌++◌, length, get_or, eqb, None, Some}
 use Rattle.std.proofs.Math.Option.{Option, none, some}
 use Rattle.std.specs.Prelude.{if◌then◌else◌}
 use Rattle.spec.specs.Rows.{Row, value_of}
 use Rattle.spec.specs.declared.Begun.{Begun}
-use Rattle.spec.specs.declared.Reading.{Reading}
-use Rattle.spec.specs.declared.Reading.TheVariants as reading
 use Rattle.spec.specs.declared.Progress.{Progress}
 use Rattle.spec.specs.declared.Progress.TheVariants.{Stage, Waiting, Conflict, Done}
-use Rattle.spec.specs.Answers.{Answer, Answered, Refused}
+use Rattle.spec.specs.Answers.{Answer, Answered, Refused, Reading}
 use Rattle.spec.specs.Run.{Call, Begin, Read, Write, Advance, Abandon, Trim, Free, Result}
 
 -- the sixteen bytes of a value
@@ -140,8 +138,8 @@ Observed Free = ℕ
 
 -- "hands back the sixteen bytes as they stand in the data buffer": ds are the data rows in use when the call returns
 abbrev pub bytes_read : List Row → Reading → Option Value
-bytes_read ds (reading.Value at) = some (value_of (get_or ds at []))
-bytes_read ds reading.Unwritten = none
+bytes_read ds (Some at) = some (value_of (get_or ds at []))
+bytes_read ds None = none
 
 abbrev pub observe : (q : Call) → List Row → Result q → Observed q
 observe (Begin k) ds a = a

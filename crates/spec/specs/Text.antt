@@ -1,25 +1,17 @@
 -- The text of the step program (document 01, "The step program"): which form a line is, and how numbers, values and results are written.
 -- A line is the list of its bytes, without its newline.
 -- Assumes nothing.
-use Rattle.std.specs.Prelude.{ℕ, zero, suc, ◌+◌, ◌-◌, ◌*◌, ◌/◌, ◌%◌, Bool, true, false, List, [], ◌∷◌, ◌++◌, length, get_or, drop, replicate, leb, ltb, eqb}
+use Rattle.std.specs.Prelude.{ℕ, zero, suc, ◌+◌, ◌-◌, ◌*◌, ◌/◌, ◌%◌, Bool, true, false, List, [], ◌∷◌, ◌++◌, length, get_or, drop, replicate, leb, ltb, eqb, Option, Some, None}
 use Prim.Native.Char.{code}
 use Prim.Native.String.{String, [] as []ˢ, ◌∷◌ as ◌∷ˢ◌}
 use Rattle.std.specs.Prelude.{if◌then◌else◌}
 use Rattle.spec.specs.Numbers.{top}
 use Rattle.spec.specs.declared.Form.{Form}
 use Rattle.spec.specs.declared.Form.TheVariants.{SetUp, Begin, Read, Write, Advance, Abandon, Trim, Free, Other}
-use Rattle.spec.specs.declared.Decimal.{Decimal}
-use Rattle.spec.specs.declared.Decimal.TheVariants.{Is, No}
-use Rattle.spec.specs.declared.OneNumber.{OneNumber}
-use Rattle.spec.specs.declared.OneNumber.TheVariants.{Only, NotOne}
-use Rattle.spec.specs.declared.TwoNumbers.{TwoNumbers}
-use Rattle.spec.specs.declared.TwoNumbers.TheVariants.{Both, NotTwo}
 use Rattle.spec.specs.declared.Begun.{Begun}
-use Rattle.spec.specs.declared.Reading.{Reading}
-use Rattle.spec.specs.declared.Reading.TheVariants.{Value, Unwritten}
 use Rattle.spec.specs.declared.Progress.{Progress}
 use Rattle.spec.specs.declared.Progress.TheVariants.{Stage, Waiting, Conflict, Done}
-use Rattle.spec.specs.Answers.{Answer, Answered, Refused}
+use Rattle.spec.specs.Answers.{Answer, Answered, Refused, Reading}
 
 -- the bytes of a text that is written out
 abbrev pub str : String → List ℕ
@@ -35,22 +27,24 @@ digit_val b =
     if ltb 57 b then 10 else
     b - 48
 
+-- a number is found with the place behind its last digit
+
 -- the number whose digits so far, at least one, have the value a, and whose next byte is the first of s, at place i
-unfoldable pub digits_from : ℕ → ℕ → List ℕ → Decimal
-digits_from a i [] = Is a i
+unfoldable pub digits_from : ℕ → ℕ → List ℕ → Option (ℕ × ℕ)
+digits_from a i [] = Some (a, i)
 digits_from a i (b ∷ s) =
     if ltb (digit_val b) 10 then
-    (if eqb a 0 then No else
-    if ltb top (a * 10 + digit_val b) then No else
+    (if eqb a 0 then None else
+    if ltb top (a * 10 + digit_val b) then None else
     digits_from (a * 10 + digit_val b) (i + 1) s)
-    else Is a i
+    else Some (a, i)
 
-unfoldable pub decimal_from : ℕ → List ℕ → Decimal
-decimal_from i [] = No
-decimal_from i (b ∷ s) = if ltb (digit_val b) 10 then digits_from (digit_val b) (i + 1) s else No
+unfoldable pub decimal_from : ℕ → List ℕ → Option (ℕ × ℕ)
+decimal_from i [] = None
+decimal_from i (b ∷ s) = if ltb (digit_val b) 10 then digits_from (digit_val b) (i + 1) s else None
 
 -- the number that stands in s at a place, and the place behind its last digit
-unfoldable pub decimal_at : List ℕ → ℕ → Decimal
+unfoldable pub decimal_at : List ℕ → ℕ → Option (ℕ × ℕ)
 decimal_at s at = decimal_from at (drop at s)
 
 -- the decimal digits of n, the last k of them at most and no zero in front, before tail
@@ -120,62 +114,62 @@ abbrev pub bracket_at : List ℕ → ℕ → Bool
 bracket_at s at = if eqb (length s) (at + 1) then eqb (get_or s at 0) 41 else false
 
 -- a number and the closing bracket
-abbrev pub one_after : List ℕ → Decimal → OneNumber
-one_after s No = NotOne
-one_after s (Is v n) = if bracket_at s n then Only v else NotOne
+abbrev pub one_after : List ℕ → Option (ℕ × ℕ) → Option ℕ
+one_after s None = None
+one_after s (Some (v, n)) = if bracket_at s n then Some v else None
 
-unfoldable pub one_at : List ℕ → ℕ → OneNumber
+unfoldable pub one_at : List ℕ → ℕ → Option ℕ
 one_at s at = one_after s (decimal_at s at)
 
 -- a number and a space
-abbrev pub spaced : List ℕ → Decimal → Decimal
-spaced s No = No
-spaced s (Is v n) = if stands 32 s n then Is v (n + 1) else No
+abbrev pub spaced : List ℕ → Option (ℕ × ℕ) → Option (ℕ × ℕ)
+spaced s None = None
+spaced s (Some (v, n)) = if stands 32 s n then Some (v, n + 1) else None
 
-unfoldable pub spaced_at : List ℕ → ℕ → Decimal
+unfoldable pub spaced_at : List ℕ → ℕ → Option (ℕ × ℕ)
 spaced_at s at = spaced s (decimal_at s at)
 
 -- a number, a space, a number and the closing bracket
-abbrev pub with_first : ℕ → OneNumber → TwoNumbers
-with_first a NotOne = NotTwo
-with_first a (Only b) = Both a b
+abbrev pub with_first : ℕ → Option ℕ → Option (ℕ × ℕ)
+with_first a None = None
+with_first a (Some b) = Some (a, b)
 
-abbrev pub two_after : List ℕ → Decimal → TwoNumbers
-two_after s No = NotTwo
-two_after s (Is a n) = with_first a (one_at s n)
+abbrev pub two_after : List ℕ → Option (ℕ × ℕ) → Option (ℕ × ℕ)
+two_after s None = None
+two_after s (Some (a, n)) = with_first a (one_at s n)
 
-unfoldable pub two_at : List ℕ → ℕ → TwoNumbers
+unfoldable pub two_at : List ℕ → ℕ → Option (ℕ × ℕ)
 two_at s at = two_after s (spaced_at s at)
 
 -- "Forms: set-up (rows, first W, limit), begin, read, write, advance, abandon, trim, free; the client stands first, then the cell, then the value."
-abbrev pub set_up_with : ℕ → TwoNumbers → Form
-set_up_with r NotTwo = Other
-set_up_with r (Both w l) = SetUp r w l
+abbrev pub set_up_with : ℕ → Option (ℕ × ℕ) → Form
+set_up_with r None = Other
+set_up_with r (Some (w, l)) = SetUp r w l
 
-abbrev pub set_up_after : List ℕ → Decimal → Form
-set_up_after s No = Other
-set_up_after s (Is r n) = set_up_with r (two_at s n)
+abbrev pub set_up_after : List ℕ → Option (ℕ × ℕ) → Form
+set_up_after s None = Other
+set_up_after s (Some (r, n)) = set_up_with r (two_at s n)
 
 unfoldable pub set_up_of : List ℕ → Form
 set_up_of s = set_up_after s (spaced_at s 8)
 
-abbrev pub client_form : (ℕ → Form) → OneNumber → Form
-client_form f NotOne = Other
-client_form f (Only k) = f k
+abbrev pub client_form : (ℕ → Form) → Option ℕ → Form
+client_form f None = Other
+client_form f (Some k) = f k
 
-abbrev pub read_with : TwoNumbers → Form
-read_with NotTwo = Other
-read_with (Both k x) = Read k x
+abbrev pub read_with : Option (ℕ × ℕ) → Form
+read_with None = Other
+read_with (Some (k, x)) = Read k x
 
-abbrev pub write_value : List ℕ → ℕ → Decimal → Form
-write_value s k No = Other
-write_value s k (Is x n) =
+abbrev pub write_value : List ℕ → ℕ → Option (ℕ × ℕ) → Form
+write_value s k None = Other
+write_value s k (Some (x, n)) =
     if bracket_at s (n + 32) then (if hex_at s n then Write k x n else Other) else
     Other
 
-abbrev pub write_after : List ℕ → Decimal → Form
-write_after s No = Other
-write_after s (Is k n) = write_value s k (spaced_at s n)
+abbrev pub write_after : List ℕ → Option (ℕ × ℕ) → Form
+write_after s None = Other
+write_after s (Some (k, n)) = write_value s k (spaced_at s n)
 
 unfoldable pub write_of : List ℕ → Form
 write_of s = write_after s (spaced_at s 7)
@@ -232,8 +226,8 @@ begun_text b = numbered (str "(number ") b.number (str ") ") ++ numbered (str "(
 
 -- v is the value that was read
 abbrev pub reading_text : List ℕ → Reading → List ℕ
-reading_text v (Value at) = str "(value " ++ (hex_text v ++ str ")")
-reading_text v Unwritten = str "(unwritten)"
+reading_text v (Some at) = str "(value " ++ (hex_text v ++ str ")")
+reading_text v None = str "(unwritten)"
 
 abbrev pub progress_text : Progress → List ℕ
 progress_text (Stage n) = numbered (str "(stage ") n (str ")")

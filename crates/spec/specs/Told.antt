@@ -1,12 +1,10 @@
 -- What a call tells a program in C: numbers for its answer, with the record, each byte of both buffers and each entry of the version table.
 -- Assumes nothing.
-use Rattle.std.specs.Prelude.{ℕ, ◌≡◌, List}
+use Rattle.std.specs.Prelude.{ℕ, ◌≡◌, List, None, Some}
 use Rattle.spec.specs.declared.Begun.{Begun}
-use Rattle.spec.specs.declared.Reading.{Reading}
-use Rattle.spec.specs.declared.Reading.TheVariants.{Value, Unwritten}
 use Rattle.spec.specs.declared.Progress.{Progress}
 use Rattle.spec.specs.declared.Progress.TheVariants.{Stage, Waiting, Conflict, Done}
-use Rattle.spec.specs.Answers.{Answer, Answered, Refused}
+use Rattle.spec.specs.Answers.{Answer, Answered, Refused, Reading}
 use Rattle.spec.specs.Image.{Image}
 use Rattle.spec.specs.Calls.{Outcome}
 use Rattle.spec.specs.Bytes.{Memory, After, on_memory, set_up}
@@ -32,8 +30,8 @@ begin_told b = told_of 0 b.number b.snapshot
 
 -- Read: 1 and the data row in which the value stands, or 0 for an unwritten cell
 abbrev pub read_told : Reading → Told
-read_told (Value at) = told_of 0 1 at
-read_told Unwritten = told_of 0 0 0
+read_told (Some at) = told_of 0 1 at
+read_told None = told_of 0 0 0
 
 -- Advance: which of its answers it is, and that answer's number
 abbrev pub advance_told : Progress → Told

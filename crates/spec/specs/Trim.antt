@@ -1,12 +1,11 @@
 -- Which rows a trim keeps (document 01, "A transaction"). Data rows are ds, committed rows cs.
 -- Assumes nothing.
-use Rattle.std.specs.Prelude.{ℕ, Bool, false, not, List, eqb, leb, ltb}
+use Rattle.spec.specs.Numbers.{Number}
+use Rattle.std.specs.Prelude.{ℕ, Bool, false, not, List, eqb, leb, ltb, None, Some}
 use Rattle.std.specs.Prelude.{if◌then◌else◌}
 use Rattle.spec.specs.Rows.{Row, tag_of, cell_of, commit_tag, filter, has_tag}
 use Rattle.spec.specs.Look.{commit_of}
 use Rattle.spec.specs.Share.{any}
-use Rattle.spec.specs.declared.Number.{Number}
-use Rattle.spec.specs.declared.Number.TheVariants.{Some, None}
 
 -- a number above n and at most low
 unfoldable pub between : ℕ → ℕ → Number → Bool

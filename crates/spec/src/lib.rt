@@ -72,13 +72,6 @@ pub struct Begun {
     pub snapshot: u32,
 }
 
-// What Read gives: the data row in which the value stands.
-#[derive(Clone, Copy)]
-pub enum Reading {
-    Value(usize),
-    Unwritten,
-}
-
 // What Advance gives: the new stage; how many transactions are still waited for; the smallest conflicting commit
 // number; the transaction's commit number.
 #[derive(Clone, Copy)]
@@ -89,36 +82,15 @@ pub enum Progress {
     Done(u32),
 }
 
-// The answers, by kind. Set-up, Write, Abandon and Free give the free figure, Trim how many data rows went.
-#[derive(Clone, Copy)]
-pub enum FigureAnswer {
-    Answered(u32),
-    Refused(Refusal),
-}
-
-#[derive(Clone, Copy)]
-pub enum BeginAnswer {
-    Answered(Begun),
-    Refused(Refusal),
-}
-
-#[derive(Clone, Copy)]
-pub enum ReadAnswer {
-    Answered(Reading),
-    Refused(Refusal),
-}
-
-#[derive(Clone, Copy)]
-pub enum AdvanceAnswer {
-    Answered(Progress),
-    Refused(Refusal),
-}
+// What a call answers: what it gives, or why it is refused. Set-up, Write, Abandon and Free give the free figure, Trim how
+// many data rows went, Begin its transaction, Read the data row in which the value stands, if the cell is written.
+pub type Answer<T> = Result<T, Refusal>;
 
 // What a call hands back: the record and the answer.
 #[derive(Clone, Copy)]
-pub struct FigureTurn {
+pub struct Turn<T> {
     pub store: Store,
-    pub answer: FigureAnswer,
+    pub answer: Answer<T>,
 }
 
 // What a set-up hands back: the record, the version table and the answer.
@@ -126,25 +98,7 @@ pub struct FigureTurn {
 pub struct SetUpTurn {
     pub store: Store,
     pub versions: [u32; VERSIONS],
-    pub answer: FigureAnswer,
-}
-
-#[derive(Clone, Copy)]
-pub struct BeginTurn {
-    pub store: Store,
-    pub answer: BeginAnswer,
-}
-
-#[derive(Clone, Copy)]
-pub struct ReadTurn {
-    pub store: Store,
-    pub answer: ReadAnswer,
-}
-
-#[derive(Clone, Copy)]
-pub struct AdvanceTurn {
-    pub store: Store,
-    pub answer: AdvanceAnswer,
+    pub answer: Answer<u32>,
 }
 
 // The stages of a queue: a client is in it from first to last, and its number is noted from noted on.
@@ -157,25 +111,11 @@ pub struct Queue {
 
 // ---- what is found in the rows
 
-// A number, if there is one.
+// A data row and the number that it is committed under, 0 for an own write.
 #[derive(Clone, Copy)]
-pub enum Number {
-    Some(u32),
-    None,
-}
-
-// Where a row is, if there is one.
-#[derive(Clone, Copy)]
-pub enum Found {
-    At(usize),
-    Missing,
-}
-
-// A data row and the number it is committed under (0 for an own write), if there is one.
-#[derive(Clone, Copy)]
-pub enum Lookup {
-    Version { at: usize, number: u32 },
-    Nothing,
+pub struct Version {
+    pub at: usize,
+    pub number: u32,
 }
 
 // ---- the step program
@@ -200,24 +140,4 @@ pub enum Form {
     Trim,
     Free,
     Other,
-}
-
-// A decimal number in a line and the place behind it.
-#[derive(Clone, Copy)]
-pub enum Decimal {
-    Is { value: u32, next: usize },
-    No,
-}
-
-// One number, and two, up to the end of a form.
-#[derive(Clone, Copy)]
-pub enum OneNumber {
-    Only(u32),
-    NotOne,
-}
-
-#[derive(Clone, Copy)]
-pub enum TwoNumbers {
-    Both(u32, u32),
-    NotTwo,
 }

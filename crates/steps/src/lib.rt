@@ -1,173 +1,97 @@
-// The steps of Advance that touch rows, and a transaction's rows removed. A step is lent the columns and the buffers
-// that it sees; its promise speaks of any others.
+// The steps of Advance that touch rows, and a transaction's rows removed.
 #![tactic(auto)]
 
-ghost use Rattle.std.specs.Prelude.{List, ℕ, ◌*◌, ◌≤◌, ◌<◌, length};
+ghost use Rattle.std.specs.Prelude.{◌≡◌, List, ℕ, ◌*◌, ◌≤◌, ◌<◌, length};
 ghost use Rattle.spec.specs.Rows.{data_width, commit_width};
 ghost use Rattle.spec.specs.Set.{clients};
 ghost use Rattle.spec.specs.Steps.{enter, check, add_commit};
-ghost use Rattle.record.specs.Inner.{columns, unseen, shared};
+ghost use Rattle.record.specs.Inner.{SameArrays, store_at};
 ghost use Rattle.queues.specs.Inner.{Step};
 ghost use Rattle.steps.specs.Inner.{Removed};
 
-use record::{AdvanceResult, Head};
-use spec::{AdvanceAnswer, CLIENTS, Number, Progress, Refusal, Set};
+use record::Record;
+use spec::{Answer, Progress, Refusal};
 
 // 0: enter the request queue; with nothing written the transaction is done at once.
-pub fn enter(
-    h: Head,
-    stage: &mut [u32; CLIENTS],
-    number: &mut [u32; CLIENTS],
-    snapshot: &mut [u32; CLIENTS],
-    request: &mut [u32; CLIENTS],
-    commit: &mut [u32; CLIENTS],
-    request_waits: &mut [Set; CLIENTS],
-    commit_waits: &mut [Set; CLIENTS],
-    rows: &[u8],
-    client: u32,
-) -> AdvanceResult
+#[tactic(auto, unfolding(spec::specs::Steps::enter), using(record::proofs::Ending::ending))]
+pub fn enter(r: &mut Record, rows: &[u8], client: u32) -> Answer<Progress>
     requires client_lt_clients { client < clients }
-    requires used_in_bounds { data_width * h.used ≤ length rows.now }
-    ensures { (c : List ℕ) → Step (enter client) h
-        (columns stage number snapshot request commit request_waits commit_waits)
-        (shared rows) (unseen c) result }
+    requires used_in_bounds { data_width * r.old.head.used ≤ length rows.now }
+    ensures same { SameArrays r.old r.new }
+    ensures does { (c : List ℕ) → Step (enter client)
+        (store_at r.old) rows.now c (store_at r.new) rows.now c result }
 {
     let k = client as usize;
-    let own = number[k];
-    let used = h.used as usize;
+    let own = r.number[k];
+    let used = r.head.used as usize;
     if !search::has_rows(rows, used, own) {
-        let done = snapshot[k];
-        return queues::finish(
-            h,
-            stage,
-            number,
-            snapshot,
-            request,
-            commit,
-            request_waits,
-            commit_waits,
-            client,
-            done,
-        );
+        let done = r.snapshot[k];
+        return queues::finish(r, client, done);
     }
-    queues::go_on(h, stage, client, 1)
+    queues::go_on(r, client, 1)
 }
 
 // The client's data rows removed, and the client closed.
-pub fn remove(
-    h: Head,
-    stage: &mut [u32; CLIENTS],
-    number: &mut [u32; CLIENTS],
-    snapshot: &mut [u32; CLIENTS],
-    request: &mut [u32; CLIENTS],
-    commit: &mut [u32; CLIENTS],
-    request_waits: &mut [Set; CLIENTS],
-    commit_waits: &mut [Set; CLIENTS],
-    rows: &mut [u8],
-    client: u32,
-) -> Head
+#[tactic(auto, unfolding(removal::specs::Inner::other_tag, spec::specs::Calls::removed), using(record::proofs::Ending::ending))]
+pub fn remove(r: &mut Record, rows: &mut [u8], client: u32)
     requires client_lt_clients { client < clients }
-    requires used_in_bounds { data_width * h.used ≤ length rows.old }
-    requires used_bound { h.used ≤ 1024 }
-    ensures { Removed client h
-        (columns stage number snapshot request commit request_waits commit_waits) rows result }
+    requires used_in_bounds { data_width * r.old.head.used ≤ length rows.old }
+    requires used_bound { r.old.head.used ≤ 1024 }
+    ensures same { SameArrays r.old r.new }
+    ensures does { Removed client (store_at r.old) rows.old (store_at r.new) rows.new }
+    ensures rows { r.new.head.rows ≡ r.old.head.rows }
+    ensures fewer { r.new.head.used ≤ r.old.head.used }
 {
-    let k = client as usize;
-    let own = number[k];
-    let used = h.used as usize;
+    let own = r.number[client as usize];
+    let used = r.head.used as usize;
     let left = removal::remove_rows(rows, used, own) as u32;
-    record::close(
-        stage,
-        number,
-        snapshot,
-        request,
-        commit,
-        request_waits,
-        commit_waits,
-        client,
-    );
-    let mut next = h;
-    next.used = left;
-    next
+    r.head.used = left;
+    record::close(r, client);
 }
 
 // 5: check commits above the snapshot for a shared cell.
-pub fn check(
-    h: Head,
-    stage: &mut [u32; CLIENTS],
-    number: &mut [u32; CLIENTS],
-    snapshot: &mut [u32; CLIENTS],
-    request: &mut [u32; CLIENTS],
-    commit: &mut [u32; CLIENTS],
-    request_waits: &mut [Set; CLIENTS],
-    commit_waits: &mut [Set; CLIENTS],
-    rows: &mut [u8],
-    commits: &[u8],
-    client: u32,
-) -> AdvanceResult
+#[tactic(auto, unfolding(spec::specs::Steps::check, spec::specs::Calls::removed), using(record::proofs::Ending::ending))]
+pub fn check(r: &mut Record, rows: &mut [u8], commits: &[u8], client: u32) -> Answer<Progress>
     requires client_lt_clients { client < clients }
-    requires used_in_bounds { data_width * h.used ≤ length rows.old }
-    requires used_bound { h.used ≤ 1024 }
-    requires entries_in_bounds { commit_width * h.entries ≤ length commits.now }
-    ensures { Step (check client) h
-        (columns stage number snapshot request commit request_waits commit_waits) rows (shared commits) result }
+    requires used_in_bounds { data_width * r.old.head.used ≤ length rows.old }
+    requires used_bound { r.old.head.used ≤ 1024 }
+    requires entries_in_bounds { commit_width * r.old.head.entries ≤ length commits.now }
+    ensures same { SameArrays r.old r.new }
+    ensures does { Step (check client)
+        (store_at r.old) rows.old commits.now (store_at r.new) rows.new commits.now result }
 {
     let k = client as usize;
-    let own = number[k];
-    let since = snapshot[k];
-    let used = h.used as usize;
-    let entries = h.entries as usize;
-    let found = search::conflict(rows, used, commits, entries, own, since);
-    match found {
-        Number::Some(n) => AdvanceResult {
-            head: remove(
-                h,
-                stage,
-                number,
-                snapshot,
-                request,
-                commit,
-                request_waits,
-                commit_waits,
-                rows,
-                client,
-            ),
-            answer: AdvanceAnswer::Answered(Progress::Conflict(n)),
-        },
-        Number::None => queues::go_on(h, stage, client, 6),
+    let own = r.number[k];
+    let since = r.snapshot[k];
+    let used = r.head.used as usize;
+    let entries = r.head.entries as usize;
+    if let Some(n) = search::conflict(rows, used, commits, entries, own, since) {
+        remove(r, rows, client);
+        return Ok(Progress::Conflict(n));
     }
+    queues::go_on(r, client, 6)
 }
 
 // 11: add the committed row; it becomes the last commit.
-pub fn add_commit(
-    h: Head,
-    stage: &mut [u32; CLIENTS],
-    number: &[u32; CLIENTS],
-    commit: &[u32; CLIENTS],
-    commits: &mut [u8],
-    client: u32,
-) -> AdvanceResult
+#[tactic(auto, unfolding(spec::specs::Steps::add_commit, spec::specs::Steps::go_on), using(record::proofs::Ending::ending))]
+pub fn add_commit(r: &mut Record, commits: &mut [u8], client: u32) -> Answer<Progress>
     requires client_lt_clients { client < clients }
-    requires rows_in_bounds { commit_width * h.rows ≤ length commits.old }
-    requires rows_bound { h.rows ≤ 1024 }
-    ensures { (s q b w d : List ℕ) → Step (add_commit client) h
-        (columns stage (shared number) (unseen s) (unseen q) (shared commit) (unseen b) (unseen w))
-        (unseen d) commits result }
+    requires rows_in_bounds { commit_width * r.old.head.rows ≤ length commits.old }
+    requires rows_bound { r.old.head.rows ≤ 1024 }
+    ensures same { SameArrays r.old r.new }
+    ensures does { (d : List ℕ) → Step (add_commit client)
+        (store_at r.old) d commits.old (store_at r.new) d commits.new result }
 {
-    if h.rows <= h.entries {
-        return queues::refuse(h, Refusal::Unfit);
+    if r.head.rows <= r.head.entries {
+        return Err(Refusal::Unfit);
     }
     let k = client as usize;
-    let n = commit[k];
-    let own = number[k];
-    let entries = h.entries as usize;
+    let n = r.commit[k];
+    let own = r.number[k];
+    let entries = r.head.entries as usize;
     rows::append_commit(commits, entries, n, own);
-    let mut next = h;
-    next.entries = h.entries + 1;
-    next.last = n;
-    stage[k] = 12;
-    AdvanceResult {
-        head: next,
-        answer: AdvanceAnswer::Answered(Progress::Stage(12)),
-    }
+    r.head.entries += 1;
+    r.head.last = n;
+    r.stage[k] = 12;
+    Ok(Progress::Stage(12))
 }

@@ -6,57 +6,38 @@
 #![tactic(auto)]
 
 ghost use Rattle.std.specs.Prelude.{◌≡◌, List, ℕ};
-ghost use Rattle.spec.specs.Answers.{figure_of, begin_of, read_of, advance_of};
+ghost use Rattle.spec.specs.Answers.{answer_of};
 ghost use Rattle.spec.specs.Calls.{abandon, begin, free, read, trim, write};
 ghost use Rattle.spec.specs.Steps.{advance};
 ghost use Rattle.spec.specs.Bytes.{memory_of, Performs, on_bytes};
 ghost use Rattle.spec.specs.Values.{value_from};
 
 pub use reads::value;
-use spec::{AdvanceTurn, BeginTurn, FigureTurn, ReadAnswer, ReadTurn, Reading, Store};
+use record::Record;
+use spec::{Begun, Progress, Store, Turn};
 pub use starts::set_up;
 
 // Begin answers the transaction's number and its snapshot.
-pub fn begin(store: Store, rows: &[u8], commits: &[u8], client: u32) -> BeginTurn
+pub fn begin(store: Store, rows: &[u8], commits: &[u8], client: u32) -> Turn<Begun>
     ensures { (v : List ℕ) → Performs (begin client)
         (memory_of store rows.now commits.now v)
-        (memory_of result.store rows.now commits.now v) (begin_of result.answer) }
+        (memory_of result.store rows.now commits.now v) (answer_of result.answer) }
 {
-    let mut stage = store.stage;
-    let mut number = store.number;
-    let mut snapshot = store.snapshot;
-    let mut request = store.request;
-    let mut commit = store.commit;
-    let mut request_waits = store.request_waits;
-    let mut commit_waits = store.commit_waits;
-    let done = begins::begin(
-        record::head_of(store),
-        &mut stage,
-        &mut number,
-        &mut snapshot,
-        &mut request,
-        &mut commit,
-        &mut request_waits,
-        &mut commit_waits,
-        rows,
-        commits,
-        client,
-    );
-    let answer = done.answer;
-    let next = record::joined(
-        done.head,
-        stage,
-        number,
-        snapshot,
-        request,
-        commit,
-        request_waits,
-        commit_waits,
-    );
-    BeginTurn {
-        store: next,
-        answer,
-    }
+    let mut store = store;
+    let mut r = Record {
+        head: record::head_of(&store),
+        stage: &mut store.stage,
+        number: &mut store.number,
+        snapshot: &mut store.snapshot,
+        request: &mut store.request,
+        commit: &mut store.commit,
+        request_waits: &mut store.request_waits,
+        commit_waits: &mut store.commit_waits,
+    };
+    let answer = begins::begin(&mut r, rows, commits, client);
+    let head = r.head;
+    record::renumber(&mut store, head);
+    Turn { store, answer }
 }
 
 // Read answers in which data row the value stands: `value` hands its sixteen bytes back. It answers until the
@@ -68,20 +49,25 @@ pub fn read(
     versions: &mut [u32],
     client: u32,
     cell: u32,
-) -> ReadTurn
+) -> Turn<Option<usize>>
     ensures { Performs (read client cell)
         (memory_of store rows.now commits.now versions.old)
         (memory_of result.store rows.now commits.now versions.new)
-        (read_of result.answer) }
+        (answer_of result.answer) }
 {
-    let stage = store.stage;
-    let number = store.number;
-    let snapshot = store.snapshot;
-    let h = record::head_of(store);
+    let h = record::head_of(&store);
     let answer = reads::read(
-        h, &stage, &number, &snapshot, rows, commits, versions, client, cell,
+        h,
+        &store.stage,
+        &store.number,
+        &store.snapshot,
+        rows,
+        commits,
+        versions,
+        client,
+        cell,
     );
-    ReadTurn { store, answer }
+    Turn { store, answer }
 }
 
 // The sixteen bytes that a read finds, as they stand in the data buffer; none where it is refused or the cell is
@@ -101,14 +87,7 @@ pub fn lookup<'a>(
         commits.now versions.old).memory.versions }
 {
     let turn = read(store, rows, commits, versions, client, cell);
-    let answer = turn.answer;
-    match answer {
-        ReadAnswer::Answered(reading) => match reading {
-            Reading::Value(at) => value(rows, at),
-            Reading::Unwritten => &rows[0..0],
-        },
-        ReadAnswer::Refused(_) => &rows[0..0],
-    }
+    reads::value_named(rows, turn.answer)
 }
 
 // Write answers the free figure.
@@ -119,133 +98,93 @@ pub fn write(
     client: u32,
     cell: u32,
     value: &[u8],
-) -> FigureTurn
+) -> Turn<u32>
     ensures { (v : List ℕ) → Performs (write client cell value.now)
         (memory_of store rows.old commits.now v)
-        (memory_of result.store rows.new commits.now v) (figure_of result.answer) }
+        (memory_of result.store rows.new commits.now v) (answer_of result.answer) }
 {
-    let stage = store.stage;
-    let number = store.number;
-    let h = record::head_of(store);
-    let done = writes::write(h, &stage, &number, rows, commits, client, cell, value);
-    let answer = done.answer;
-    FigureTurn {
-        store: record::renumbered(store, done.head),
-        answer,
-    }
+    let mut store = store;
+    let mut head = record::head_of(&store);
+    let answer = writes::write(
+        &mut head,
+        &store.stage,
+        &store.number,
+        rows,
+        commits,
+        client,
+        cell,
+        value,
+    );
+    record::renumber(&mut store, head);
+    Turn { store, answer }
 }
 
 // Advance takes the one step that the client's stage calls for.
-pub fn advance(store: Store, rows: &mut [u8], commits: &mut [u8], client: u32) -> AdvanceTurn
+pub fn advance(store: Store, rows: &mut [u8], commits: &mut [u8], client: u32) -> Turn<Progress>
     ensures { (v : List ℕ) → Performs (advance client)
         (memory_of store rows.old commits.old v)
-        (memory_of result.store rows.new commits.new v) (advance_of result.answer) }
+        (memory_of result.store rows.new commits.new v) (answer_of result.answer) }
 {
-    let mut stage = store.stage;
-    let mut number = store.number;
-    let mut snapshot = store.snapshot;
-    let mut request = store.request;
-    let mut commit = store.commit;
-    let mut request_waits = store.request_waits;
-    let mut commit_waits = store.commit_waits;
-    let done = advances::advance(
-        record::head_of(store),
-        &mut stage,
-        &mut number,
-        &mut snapshot,
-        &mut request,
-        &mut commit,
-        &mut request_waits,
-        &mut commit_waits,
-        rows,
-        commits,
-        client,
-    );
-    let answer = done.answer;
-    let next = record::joined(
-        done.head,
-        stage,
-        number,
-        snapshot,
-        request,
-        commit,
-        request_waits,
-        commit_waits,
-    );
-    AdvanceTurn {
-        store: next,
-        answer,
-    }
+    let mut store = store;
+    let mut r = Record {
+        head: record::head_of(&store),
+        stage: &mut store.stage,
+        number: &mut store.number,
+        snapshot: &mut store.snapshot,
+        request: &mut store.request,
+        commit: &mut store.commit,
+        request_waits: &mut store.request_waits,
+        commit_waits: &mut store.commit_waits,
+    };
+    let answer = advances::advance(&mut r, rows, commits, client);
+    let head = r.head;
+    record::renumber(&mut store, head);
+    Turn { store, answer }
 }
 
 // Abandon answers the free figure.
-pub fn abandon(store: Store, rows: &mut [u8], commits: &[u8], client: u32) -> FigureTurn
+pub fn abandon(store: Store, rows: &mut [u8], commits: &[u8], client: u32) -> Turn<u32>
     ensures { (v : List ℕ) → Performs (abandon client)
         (memory_of store rows.old commits.now v)
-        (memory_of result.store rows.new commits.now v) (figure_of result.answer) }
+        (memory_of result.store rows.new commits.now v) (answer_of result.answer) }
 {
-    let mut stage = store.stage;
-    let mut number = store.number;
-    let mut snapshot = store.snapshot;
-    let mut request = store.request;
-    let mut commit = store.commit;
-    let mut request_waits = store.request_waits;
-    let mut commit_waits = store.commit_waits;
-    let done = abandons::abandon(
-        record::head_of(store),
-        &mut stage,
-        &mut number,
-        &mut snapshot,
-        &mut request,
-        &mut commit,
-        &mut request_waits,
-        &mut commit_waits,
-        rows,
-        commits,
-        client,
-    );
-    let answer = done.answer;
-    let next = record::joined(
-        done.head,
-        stage,
-        number,
-        snapshot,
-        request,
-        commit,
-        request_waits,
-        commit_waits,
-    );
-    FigureTurn {
-        store: next,
-        answer,
-    }
+    let mut store = store;
+    let mut r = Record {
+        head: record::head_of(&store),
+        stage: &mut store.stage,
+        number: &mut store.number,
+        snapshot: &mut store.snapshot,
+        request: &mut store.request,
+        commit: &mut store.commit,
+        request_waits: &mut store.request_waits,
+        commit_waits: &mut store.commit_waits,
+    };
+    let answer = abandons::abandon(&mut r, rows, commits, client);
+    let head = r.head;
+    record::renumber(&mut store, head);
+    Turn { store, answer }
 }
 
 // Trim answers how many data rows went.
-pub fn trim(store: Store, rows: &mut [u8], commits: &mut [u8]) -> FigureTurn
+pub fn trim(store: Store, rows: &mut [u8], commits: &mut [u8]) -> Turn<u32>
     ensures { (v : List ℕ) → Performs trim
         (memory_of store rows.old commits.old v)
-        (memory_of result.store rows.new commits.new v) (figure_of result.answer) }
+        (memory_of result.store rows.new commits.new v) (answer_of result.answer) }
 {
-    let stage = store.stage;
-    let number = store.number;
-    let snapshot = store.snapshot;
-    let h = record::head_of(store);
-    let done = trims::trim(h, &stage, &number, &snapshot, rows, commits);
-    let answer = done.answer;
-    FigureTurn {
-        store: record::renumbered(store, done.head),
-        answer,
-    }
+    let mut store = store;
+    let mut head = record::head_of(&store);
+    let (stage, number, snapshot) = (&store.stage, &store.number, &store.snapshot);
+    let answer = trims::trim(&mut head, stage, number, snapshot, rows, commits);
+    record::renumber(&mut store, head);
+    Turn { store, answer }
 }
 
 // Free answers how many data rows are not in use.
-pub fn free(store: Store, rows: &[u8], commits: &[u8]) -> FigureTurn
+pub fn free(store: Store, rows: &[u8], commits: &[u8]) -> Turn<u32>
     ensures { (v : List ℕ) → Performs free
         (memory_of store rows.now commits.now v)
-        (memory_of result.store rows.now commits.now v) (figure_of result.answer) }
+        (memory_of result.store rows.now commits.now v) (answer_of result.answer) }
 {
-    let stage = store.stage;
-    let answer = reads::free(record::head_of(store), &stage, rows, commits);
-    FigureTurn { store, answer }
+    let answer = reads::free(record::head_of(&store), &store.stage, rows, commits);
+    Turn { store, answer }
 }

@@ -1,18 +1,18 @@
 // Standard input and output of the step program: text written whole, and one chunk read behind bytes that are kept.
 #![tactic(auto)]
 
-ghost use Rattle.std.specs.Prelude.{true, ◌≡◌, ◌≤◌, ◌+◌, length, take, drop, IfOk, MatchResult};
+ghost use Rattle.std.specs.Prelude.{◌≡◌, ◌≤◌, ◌+◌, length, take, drop, IfOk, MatchResult};
 ghost use Rattle.std.specs.Io.KnownBytes.{Appends, Consumes, Keeps};
 
 use std::io;
 use std::io::{Read, Write};
 
-// Writes the text in out that ends at a place; false where that fails.
-pub fn flush<W: Write>(output: &mut W, out: &[u8], used: usize) -> bool
+// Writes the text in out that ends at a place.
+pub fn flush<W: Write>(output: &mut W, out: &[u8], used: usize) -> io::Result<()>
     requires { used ≤ length out.now }
-    ensures { result ≡ true → Appends (W.contents output.old) (W.contents output.new) (take used out.now) }
+    ensures { IfOk result (λ _. Appends (W.contents output.old) (W.contents output.new) (take used out.now)) }
 {
-    output.write_all(&out[..used]).is_ok()
+    output.write_all(&out[..used])
 }
 
 // One read behind the bytes that are kept, which stay: how many bytes came, or why none did.

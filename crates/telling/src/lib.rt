@@ -1,33 +1,12 @@
-// Answers as numbers, for programs in C: the refusal's number or 0, then what the call gives. Definitions: crate
-// spec, specs/Told.antt.
+// Answers as numbers, for programs in C: the refusal's number or 0, then what the call gives, zeros where it is refused.
+// Definitions: crate spec, specs/Told.antt.
 #![tactic(auto)]
 
 ghost use Rattle.std.specs.Prelude.{◌≡◌};
-ghost use Rattle.spec.specs.Answers.{code, figure_of, begin_of, read_of, advance_of};
+ghost use Rattle.spec.specs.Answers.{code, answer_of};
 ghost use Rattle.spec.specs.Told.{told_of, figure_told, begin_told, read_told, advance_told, in_numbers};
 
-use spec::{AdvanceAnswer, BeginAnswer, FigureAnswer, Progress, ReadAnswer, Reading, Refusal};
-
-// The numbers of an answer: of a call that gives a figure, of one that gives two numbers, and of Read.
-#[derive(Clone, Copy)]
-pub struct Figure {
-    pub refusal: u32,
-    pub figure: u32,
-}
-
-#[derive(Clone, Copy)]
-pub struct Numbers {
-    pub refusal: u32,
-    pub first: u32,
-    pub second: u32,
-}
-
-#[derive(Clone, Copy)]
-pub struct Place {
-    pub refusal: u32,
-    pub found: u32,
-    pub row: usize,
-}
+use spec::{Answer, Begun, Progress, Refusal};
 
 // Document 01's number of a refusal; 11 is unused.
 pub fn code_of(r: Refusal) -> u32
@@ -48,73 +27,103 @@ pub fn code_of(r: Refusal) -> u32
     }
 }
 
-pub fn figure_told(answer: FigureAnswer) -> Figure
-    ensures { told_of result.refusal result.figure 0 ≡ in_numbers figure_told (figure_of answer) }
-{
-    match answer {
-        FigureAnswer::Answered(figure) => Figure { refusal: 0, figure },
-        FigureAnswer::Refused(why) => Figure {
-            refusal: code_of(why),
-            figure: 0,
-        },
+// ---- Set-up, Write, Abandon, Trim, Free: the figure
+
+#[repr(C)]
+#[derive(Clone, Copy)]
+pub struct FigureGiven {
+    pub refusal: u32,
+    pub figure: u32,
+}
+
+impl From<Answer<u32>> for FigureGiven {
+    ghost from_gives = { λ answer r. told_of r.refusal r.figure 0 ≡ in_numbers figure_told (answer_of answer) };
+
+    fn from(answer: Answer<u32>) -> FigureGiven {
+        match answer {
+            Ok(figure) => FigureGiven { refusal: 0, figure },
+            Err(why) => FigureGiven {
+                refusal: code_of(why),
+                figure: 0,
+            },
+        }
     }
 }
 
-// Two numbers, where the call is answered, and where it is refused.
-fn given(first: u32, second: u32) -> Numbers
-    ensures { told_of result.refusal result.first result.second ≡ told_of 0 first second }
-{
-    Numbers {
-        refusal: 0,
-        first,
-        second,
+// ---- Begin: the transaction's number and its snapshot
+
+#[repr(C)]
+#[derive(Clone, Copy)]
+pub struct BeginGiven {
+    pub refusal: u32,
+    pub number: u32,
+    pub snapshot: u32,
+}
+
+impl From<Answer<Begun>> for BeginGiven {
+    ghost from_gives = { λ answer r. told_of r.refusal r.number r.snapshot ≡ in_numbers begin_told (answer_of answer) };
+
+    fn from(answer: Answer<Begun>) -> BeginGiven {
+        match answer {
+            Ok(begun) => BeginGiven {
+                refusal: 0,
+                number: begun.number,
+                snapshot: begun.snapshot,
+            },
+            Err(why) => BeginGiven {
+                refusal: code_of(why),
+                number: 0,
+                snapshot: 0,
+            },
+        }
     }
 }
 
-fn refused(why: Refusal) -> Numbers
-    ensures { told_of result.refusal result.first result.second ≡ told_of (code why) 0 0 }
-{
-    Numbers {
-        refusal: code_of(why),
-        first: 0,
-        second: 0,
-    }
-}
+// ---- Read: 1 and the data row in which the value stands, or 0 for an unwritten cell
 
-pub fn begin_told(answer: BeginAnswer) -> Numbers
-    ensures { told_of result.refusal result.first result.second ≡ in_numbers begin_told (begin_of answer) }
-{
-    match answer {
-        BeginAnswer::Answered(begun) => given(begun.number, begun.snapshot),
-        BeginAnswer::Refused(why) => refused(why),
-    }
+#[repr(C)]
+#[derive(Clone, Copy)]
+pub struct ReadGiven {
+    pub refusal: u32,
+    pub found: u32,
+    pub row: usize,
 }
 
 // No row: of an unwritten cell, with refusal 0, and of a refused Read.
-fn nowhere(refusal: u32) -> Place
+fn nowhere(refusal: u32) -> ReadGiven
     ensures { told_of result.refusal result.found result.row ≡ told_of refusal 0 0 }
 {
-    Place {
+    ReadGiven {
         refusal,
         found: 0,
         row: 0,
     }
 }
 
-pub fn read_told(answer: ReadAnswer) -> Place
-    ensures { told_of result.refusal result.found result.row ≡ in_numbers read_told (read_of answer) }
-{
-    match answer {
-        ReadAnswer::Answered(reading) => match reading {
-            Reading::Value(at) => Place {
+impl From<Answer<Option<usize>>> for ReadGiven {
+    ghost from_gives = { λ answer r. told_of r.refusal r.found r.row ≡ in_numbers read_told (answer_of answer) };
+
+    fn from(answer: Answer<Option<usize>>) -> ReadGiven {
+        match answer {
+            Ok(Some(row)) => ReadGiven {
                 refusal: 0,
                 found: 1,
-                row: at,
+                row,
             },
-            Reading::Unwritten => nowhere(0),
-        },
-        ReadAnswer::Refused(why) => nowhere(code_of(why)),
+            Ok(None) => nowhere(0),
+            Err(why) => nowhere(code_of(why)),
+        }
     }
+}
+
+// ---- Advance: 1 Stage, 2 Waiting, 3 Conflict, 4 Done, and its number
+
+#[repr(C)]
+#[derive(Clone, Copy)]
+pub struct AdvanceGiven {
+    pub refusal: u32,
+    pub progress: u32,
+    pub number: u32,
 }
 
 // Which of Advance's answers it is, and its number. Apart, each is a step or two for the machine.
@@ -133,18 +142,25 @@ fn number_of(progress: Progress) -> u32
     ensures { result ≡ (advance_told progress).second }
 {
     match progress {
-        Progress::Stage(n) => n,
-        Progress::Waiting(n) => n,
-        Progress::Conflict(n) => n,
-        Progress::Done(n) => n,
+        Progress::Stage(n) | Progress::Waiting(n) | Progress::Conflict(n) | Progress::Done(n) => n,
     }
 }
 
-pub fn advance_told(answer: AdvanceAnswer) -> Numbers
-    ensures { told_of result.refusal result.first result.second ≡ in_numbers advance_told (advance_of answer) }
-{
-    match answer {
-        AdvanceAnswer::Answered(progress) => given(kind_of(progress), number_of(progress)),
-        AdvanceAnswer::Refused(why) => refused(why),
+impl From<Answer<Progress>> for AdvanceGiven {
+    ghost from_gives = { λ answer r. told_of r.refusal r.progress r.number ≡ in_numbers advance_told (answer_of answer) };
+
+    fn from(answer: Answer<Progress>) -> AdvanceGiven {
+        match answer {
+            Ok(progress) => AdvanceGiven {
+                refusal: 0,
+                progress: kind_of(progress),
+                number: number_of(progress),
+            },
+            Err(why) => AdvanceGiven {
+                refusal: code_of(why),
+                progress: 0,
+                number: 0,
+            },
+        }
     }
 }

@@ -1,7 +1,7 @@
 -- A line read byte by byte: words and decimal numbers. Each law is one turn of a loop, or its end: what the definition says of the bytes
 -- from a place on is what it says of the bytes from the next place on.
 -- Assumes nothing.
-use Prim.Native.Nat.{ℕ, ◌+◌, ◌-◌, ◌*◌, ◌%◌, ◌≤◌, ◌<◌}
+use Prim.Native.Nat.{ℕ, ◌+◌, ◌*◌, ◌≤◌, ◌<◌}
 use mathlib.Core.Path.{◌≡◌, refl}
 use mathlib.Core.Bool.{Bool, true, false}
 use mathlib.Core.List.{List, [], ◌∷◌}
@@ -10,11 +10,10 @@ use native.Mathlib.Nat.{not-suc-le-zero}
 use native.Mathlib.Omega.{arith}
 use lib.ListN.{length, get_or, drop, drop_of_length-le}
 use lib.Seq.{drop-cons}
-use lib.Dec.{ltb, eqb}
-use borrow.Author.Tests.{ltb-false, lt-ltb, le-ltb, eq-eqb, ne_eqb}
-use Rattle.std.specs.Prelude.{if◌then◌else◌}
+use lib.Dec.{eqb}
+use borrow.Author.Tests.{lt-ltb, le-ltb, eq-eqb, ne_eqb}
+use Rattle.std.specs.Prelude.{Some, None, if◌then◌else◌}
 use Rattle.spec.specs.Text.{begins, digit_val, digits_from, decimal_from, decimal_at}
-use Rattle.spec.specs.declared.Decimal.TheVariants.{Is, No}
 
 -- ---- words
 
@@ -40,34 +39,18 @@ module _ (w s : List ℕ) (i : ℕ) where
 
 -- ---- decimal numbers
 
--- the digits are the bytes from 48 on, taken round the 256 bytes
-module _ (b : ℕ) (f : b < 256) where
-  pub digit_near : (b + 208) % 256 < 10 → digit_val b ≡ (b + 208) % 256
-  unfolding digit_val
-  digit_near h =
-      let e : b - 48 ≡ (b + 208) % 256 = omega arith in
-      rw (le-ltb b 48 (omega arith), le-ltb 57 b (omega arith), e)
-
-  pub digit_far : 10 ≤ (b + 208) % 256 → digit_val b ≡ 10
-  unfolding digit_val
-  digit_far h = go (ltb b 48) refl
-    where
-      go : (x : Bool) → ltb b 48 ≡ x → (if x then 10 else (if ltb 57 b then 10 else b - 48)) ≡ 10
-      go true e = refl
-      go false e = rw (lt-ltb 57 b (omega (arith, ltb-false b 48 e)))
-
 module _ (s : List ℕ) (i : ℕ) where
-  pub decimal_none : length s ≤ i → decimal_at s i ≡ No
+  pub decimal_none : length s ≤ i → decimal_at s i ≡ None
   unfolding decimal_at decimal_from
   decimal_none h = rw (drop_of_length-le s h)
 
-  pub digits_end : (a : ℕ) → length s ≤ i → digits_from a i (drop i s) ≡ Is a i
+  pub digits_end : (a : ℕ) → length s ≤ i → digits_from a i (drop i s) ≡ Some (a, i)
   unfolding digits_from
   digits_end a h = rw (drop_of_length-le s h)
 
 -- d is the value of the digit at i
 module _ (s : List ℕ) (i d : ℕ) (e : d ≡ digit_val (get_or s i 0)) (h : i < length s) where
-  pub decimal_other : 10 ≤ d → decimal_at s i ≡ No
+  pub decimal_other : 10 ≤ d → decimal_at s i ≡ None
   unfolding decimal_at decimal_from
   decimal_other n = rw (drop-cons s i 0 h, ← e, le-ltb d 10 n)
 
@@ -75,15 +58,15 @@ module _ (s : List ℕ) (i d : ℕ) (e : d ≡ digit_val (get_or s i 0)) (h : i 
   unfolding decimal_at decimal_from
   decimal_first n = rw (drop-cons s i 0 h, ← e, add-one i, lt-ltb d 10 n)
 
-  pub digits_stop : (a : ℕ) → 10 ≤ d → digits_from a i (drop i s) ≡ Is a i
+  pub digits_stop : (a : ℕ) → 10 ≤ d → digits_from a i (drop i s) ≡ Some (a, i)
   unfolding digits_from
   digits_stop a n = rw (drop-cons s i 0 h, ← e, le-ltb d 10 n)
 
-  pub digits_zero : (a : ℕ) → d < 10 → a ≡ 0 → digits_from a i (drop i s) ≡ No
+  pub digits_zero : (a : ℕ) → d < 10 → a ≡ 0 → digits_from a i (drop i s) ≡ None
   unfolding digits_from
   digits_zero a n z = rw (drop-cons s i 0 h, ← e, lt-ltb d 10 n, eq-eqb a 0 z)
 
-  pub digits_large : (a : ℕ) → d < 10 → (a ≡ 0 → ⊥) → 4294967295 < a * 10 + d → digits_from a i (drop i s) ≡ No
+  pub digits_large : (a : ℕ) → d < 10 → (a ≡ 0 → ⊥) → 4294967295 < a * 10 + d → digits_from a i (drop i s) ≡ None
   unfolding digits_from
   digits_large a n z l = rw (drop-cons s i 0 h, ← e, lt-ltb d 10 n, ne_eqb a 0 z, lt-ltb 4294967295 (a * 10 + d) l)
 

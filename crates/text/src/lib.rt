@@ -2,12 +2,12 @@
 #![tactic(auto)]
 
 ghost use Rattle.std.specs.Prelude.{◌≡◌, true, ◌+◌, ◌≤◌, ◌<◌, length};
-ghost use Rattle.spec.specs.Text.{begins as Text·begins, stands as Text·stands, bracket_at, digit_val, decimal_at};
+ghost use Rattle.spec.specs.Text.{begins as Text·begins, bracket_at, digit_val, decimal_at};
 ghost use Rattle.spec.specs.Text.{hex_val, hex_at, value_in, one_at, spaced_at, two_at};
 ghost use Rattle.spec.specs.Text.{set_up_of, write_of, form_in, form_of};
 ghost use Rattle.text.specs.Inner.{HexValues};
 
-use spec::{Decimal, Form, OneNumber, TOP, TwoNumbers};
+use spec::{Form, TOP};
 
 // A line of more bytes is no form.
 const LONGEST_FORM: usize = 80;
@@ -21,106 +21,70 @@ fn begins(word: &[u8], line: &[u8]) -> bool
     if line.len() < word.len() {
         return false;
     }
-    let mut i = 0;
-    while i < word.len() {
+    for i in 0..word.len() {
         if word[i] != line[i] {
             return false;
         }
-        i += 1;
     }
     true
-}
-
-// Whether the byte stands at a place of the line.
-fn stands(b: u8, line: &[u8], at: usize) -> bool
-    ensures value { result ≡ Text·stands b line.now at }
-    ensures at_in_bounds { result ≡ true → at < length line.now }
-{
-    if at < line.len() {
-        line[at] == b
-    } else {
-        false
-    }
 }
 
 // Whether the line's last byte stands at a place, and is a closing bracket.
 fn bracket_at(line: &[u8], at: usize) -> bool
     ensures { result ≡ bracket_at line.now at }
 {
-    if line.len() <= at {
-        return false;
-    }
-    if line.len() - at == 1 {
-        line[at] == b')'
-    } else {
-        false
-    }
+    matches!(line.get(at..), Some([b')']))
 }
 
 // ---- numbers and values in a line. Bytes 48 to 57 are the digits 0 to 9, 97 to 102 the letters a to f.
 
-// The value of a decimal digit, 10 for any other byte. Byte 48 comes round to 0: one test is enough.
+// The value of a decimal digit, 10 for any other byte.
+#[tactic(auto, unfolding(spec::specs::Text::digit_val))]
 fn digit_of(b: u8) -> u64
     ensures { result ≡ digit_val b }
 {
-    let d = (b as u64 + 208) % 256;
-    if d < 10 { d } else { 10 }
+    match b {
+        b'0'..=b'9' => (b - b'0') as u64,
+        _ => 10,
+    }
 }
 
-// The decimal number at a place of the line.
-fn decimal(line: &[u8], at: usize) -> Decimal
+// The decimal number at a place of the line, and the place behind its last digit.
+fn decimal(line: &[u8], at: usize) -> Option<(u32, usize)>
     ensures { result ≡ decimal_at line.now at }
 {
-    if line.len() <= at {
-        return Decimal::No;
-    }
-    let first = digit_of(line[at]);
+    let first = digit_of(*line.get(at)?);
     if 10 <= first {
-        return Decimal::No;
+        return None;
     }
     let mut acc = first;
-    let mut i = at + 1;
-    while i < line.len() {
+    for i in at + 1..line.len() {
         let d = digit_of(line[i]);
         if 10 <= d {
-            return Decimal::Is {
-                value: acc as u32,
-                next: i,
-            };
+            return Some((acc as u32, i));
         }
         if acc == 0 {
-            return Decimal::No;
+            return None;
         }
         let more = acc * 10 + d;
         if (TOP as u64) < more {
-            return Decimal::No;
+            return None;
         }
         acc = more;
-        i += 1;
     }
-    Decimal::Is {
-        value: acc as u32,
-        next: i,
-    }
+    Some((acc as u32, line.len()))
 }
 
 // The value of a hexadecimal digit, 16 for any other byte.
+#[tactic(auto, unfolding(spec::specs::Text::hex_val))]
 fn hex_of(b: u8) -> u8
     ensures { (result ≡ hex_val b) × (result ≤ 16) }
 {
-    if b < 48 {
-        return 16;
+    match b {
+        b'0'..=b'9' => b - b'0',
+        b'a'..=b'f' => b - b'a' + 10,
+        _ => 16,
     }
-    if b < 58 {
-        return b - 48;
-    }
-    if b < 97 {
-        return 16;
-    }
-    if b < 103 {
-        return b - 87;
-    }
-    16
 }
 
 // Whether 32 hexadecimal digits stand in the line from a place on. The largest value decides: all 32 are looked at,
@@ -157,6 +121,7 @@ fn digits_at(line: &[u8], at: usize) -> [u8; 32]
 }
 
 // The sixteen bytes whose digits stand in the line from a place on; zeros where they are not all there.
+#[tactic(auto, unfolding(spec::specs::Text::value_in))]
 pub fn value_in(line: &[u8], at: usize) -> [u8; 16]
     ensures { result ≡ value_in line.now at }
 {
@@ -177,99 +142,72 @@ pub fn value_in(line: &[u8], at: usize) -> [u8; 16]
 // ---- the form of a line
 
 // A number and the closing bracket.
-fn one_at(line: &[u8], at: usize) -> OneNumber
+#[tactic(auto, unfolding(spec::specs::Text::one_at))]
+fn one_at(line: &[u8], at: usize) -> Option<u32>
     ensures { result ≡ one_at line.now at }
 {
-    match decimal(line, at) {
-        Decimal::Is { value, next } => {
-            if bracket_at(line, next) {
-                OneNumber::Only(value)
-            } else {
-                OneNumber::NotOne
-            }
-        }
-        Decimal::No => OneNumber::NotOne,
-    }
+    let (value, next) = decimal(line, at)?;
+    bracket_at(line, next).then_some(value)
 }
 
-// A number and a space.
-fn spaced_at(line: &[u8], at: usize) -> Decimal
+// A number and a space, and the place behind it.
+#[tactic(auto, unfolding(spec::specs::Text::spaced_at))]
+fn spaced_at(line: &[u8], at: usize) -> Option<(u32, usize)>
     ensures { result ≡ spaced_at line.now at }
 {
-    match decimal(line, at) {
-        Decimal::Is { value, next } => {
-            if stands(b' ', line, next) {
-                Decimal::Is {
-                    value,
-                    next: next + 1,
-                }
-            } else {
-                Decimal::No
-            }
-        }
-        Decimal::No => Decimal::No,
+    let (value, next) = decimal(line, at)?;
+    match line.get(next) {
+        Some(b' ') => Some((value, next + 1)),
+        _ => None,
     }
 }
 
 // A number, a space, a number and the closing bracket.
-fn two_at(line: &[u8], at: usize) -> TwoNumbers
+#[tactic(auto, unfolding(spec::specs::Text::two_at))]
+fn two_at(line: &[u8], at: usize) -> Option<(u32, u32)>
     ensures { result ≡ two_at line.now at }
 {
-    match spaced_at(line, at) {
-        Decimal::Is { value, next } => match one_at(line, next) {
-            OneNumber::Only(second) => TwoNumbers::Both(value, second),
-            OneNumber::NotOne => TwoNumbers::NotTwo,
-        },
-        Decimal::No => TwoNumbers::NotTwo,
-    }
+    let (first, next) = spaced_at(line, at)?;
+    Some((first, one_at(line, next)?))
 }
 
 // What stands behind "(set-up ".
+#[tactic(auto, unfolding(spec::specs::Text::set_up_of))]
 fn set_up_of(line: &[u8]) -> Form
     ensures { result ≡ set_up_of line.now }
 {
-    match spaced_at(line, 8) {
-        Decimal::Is { value, next } => match two_at(line, next) {
-            TwoNumbers::Both(first, limit) => Form::SetUp {
-                rows: value,
-                first,
-                limit,
-            },
-            TwoNumbers::NotTwo => Form::Other,
-        },
-        Decimal::No => Form::Other,
-    }
+    let Some((rows, next)) = spaced_at(line, 8) else {
+        return Form::Other;
+    };
+    let Some((first, limit)) = two_at(line, next) else {
+        return Form::Other;
+    };
+    Form::SetUp { rows, first, limit }
 }
 
 // What stands behind "(write ".
+#[tactic(auto, unfolding(spec::specs::Text::write_of))]
 fn write_of(line: &[u8]) -> Form
     ensures { result ≡ write_of line.now }
 {
-    let Decimal::Is {
-        value: client,
-        next: second,
-    } = spaced_at(line, 7)
-    else {
+    let Some((client, second)) = spaced_at(line, 7) else {
         return Form::Other;
     };
-    let Decimal::Is { value: cell, next } = spaced_at(line, second) else {
+    let Some((cell, value)) = spaced_at(line, second) else {
         return Form::Other;
     };
-    if next < line.len() {
-        if bracket_at(line, next + 32) {
-            if hex_at(line, next) {
-                return Form::Write {
-                    client,
-                    cell,
-                    value: next,
-                };
-            }
-        }
+    if value < line.len() && bracket_at(line, value + 32) && hex_at(line, value) {
+        return Form::Write {
+            client,
+            cell,
+            value,
+        };
     }
     Form::Other
 }
 
 // The form of a line of any length.
+#[tactic(auto, unfolding(spec::specs::Text::form_in))]
 fn form_in(line: &[u8]) -> Form
     ensures { result ≡ form_in line.now }
 {
@@ -277,31 +215,19 @@ fn form_in(line: &[u8]) -> Form
         return set_up_of(line);
     }
     if begins(b"(begin ", line) {
-        return match one_at(line, 7) {
-            OneNumber::Only(client) => Form::Begin(client),
-            OneNumber::NotOne => Form::Other,
-        };
+        return one_at(line, 7).map_or(Form::Other, Form::Begin);
     }
     if begins(b"(read ", line) {
-        return match two_at(line, 6) {
-            TwoNumbers::Both(client, cell) => Form::Read(client, cell),
-            TwoNumbers::NotTwo => Form::Other,
-        };
+        return two_at(line, 6).map_or(Form::Other, |(client, cell)| Form::Read(client, cell));
     }
     if begins(b"(write ", line) {
         return write_of(line);
     }
     if begins(b"(advance ", line) {
-        return match one_at(line, 9) {
-            OneNumber::Only(client) => Form::Advance(client),
-            OneNumber::NotOne => Form::Other,
-        };
+        return one_at(line, 9).map_or(Form::Other, Form::Advance);
     }
     if begins(b"(abandon ", line) {
-        return match one_at(line, 9) {
-            OneNumber::Only(client) => Form::Abandon(client),
-            OneNumber::NotOne => Form::Other,
-        };
+        return one_at(line, 9).map_or(Form::Other, Form::Abandon);
     }
     if begins(b"(trim)", line) {
         if line.len() == 6 {
@@ -318,6 +244,7 @@ fn form_in(line: &[u8]) -> Form
 }
 
 // The form of a line, without its newline: document 01, "The step program".
+#[tactic(auto, unfolding(spec::specs::Text::form_of))]
 pub fn form_of(line: &[u8]) -> Form
     ensures { result ≡ form_of line.now }
 {

@@ -2,22 +2,20 @@
 -- the newest of its cell: what is wanted of all rows, `any` row later than n, is at every turn that n is below the newest so far, or any
 -- later one among the rows to come.
 -- Assumes nothing.
+use Rattle.spec.specs.Numbers.{Number}
 use Prim.Native.Nat.{ℕ, ◌+◌, ◌≤◌, ◌<◌}
 use mathlib.Core.Path.{◌≡◌, refl, sym, ap, ◌∙◌}
 use mathlib.Core.Bool.{Bool, true, false, not}
 use mathlib.Core.List.{List, [], ◌∷◌}
 use lib.Dec.{eqb, ltb, leb}
-use lib.ListN.{length, get_or, set, replicate, length-set, get_or-replicate}
-use lib.Seq.{get_or-set_same, get_or-set_other}
+use lib.ListN.{get_or, replicate, get_or-replicate}
 use native.Mathlib.Omega.{arith}
-use borrow.Author.Tests.{ltb-true, ltb-false, leb-true, eqb-true, eqb-false, lt-ltb, le-ltb, le-leb, lt-leb}
-use Rattle.std.specs.Prelude.{if◌then◌else◌}
+use borrow.Author.Tests.{ltb-true, le-ltb, lt-leb}
+use Rattle.std.specs.Prelude.{if◌then◌else◌, None, Some}
 use Rattle.spec.specs.Rows.{Row, row_at, rows_in, rows_from, tag_of, cell_of}
 use Rattle.spec.proofs.Rows.{rows_start}
 use Rattle.spec.specs.Look.{commit_of}
 use Rattle.spec.specs.Share.{any}
-use Rattle.spec.specs.declared.Number.{Number}
-use Rattle.spec.specs.declared.Number.TheVariants.{Some, None}
 use Rattle.spec.specs.Trim.{between, later, overtaken, stays}
 use Rattle.trimming.specs.Inner.{number_or, Noted, Newest}
 use Rattle.search.proofs.Folds.{if_same, if_itself, any_step, any_end}
@@ -66,45 +64,6 @@ up_to_low low ds cs cell None h g = absurd (omega arith)
 up_to_low low ds cs cell (Some n) h g = refl
 
 -- ---- the newest number of each cell
-
--- the row adds nothing
-pub noted_same : (l : List ℕ) (cell number low : ℕ) → length l ≡ 1024 → (cell < 1024 → number ≤ low → number ≤ get_or l cell 0)
-    → Noted low cell number l l
-noted_same l cell number low e h = record { size = e; each = λ x m g. absorb (ltb m (get_or l x 0)) _ (by-cell x m g (eqb cell x) refl) }
-  where
-    absorb : (b z : Bool) → (z ≡ true → b ≡ true) → b ≡ (if b then true else z)
-    absorb true z e = refl
-    absorb false true e = e refl
-    absorb false false e = refl
-
-    by_number : (m : ℕ) (b : Bool) → cell < 1024 → ltb m number ≡ b → (if b then leb number low else false) ≡ true → m < get_or l cell 0
-    by_number m true g f z = omega (arith, h g (leb-true number low z), ltb-true m number f)
-    by_number m false g f z = absurd (not_both false refl z)
-
-    by-cell : (x m : ℕ) → x < 1024 → (b : Bool) → eqb cell x ≡ b
-        → (if b then (if ltb m number then leb number low else false) else false) ≡ true → ltb m (get_or l x 0) ≡ true
-    by-cell x m g true f z =
-        let same : cell ≡ x = eqb-true cell x f in
-        rw (← same) (lt-ltb m (get_or l cell 0) (by_number m (ltb m number) (omega arith) refl z))
-    by-cell x m g false f z = absurd (not_both false refl z)
-
--- the row's number is the newest
-pub noted_newer : (l : List ℕ) (cell number low : ℕ) → length l ≡ 1024 → cell < 1024 → number ≤ low → get_or l cell 0 < number
-    → Noted low cell number l (set l cell number)
-noted_newer l cell number low e h g b = record { size = simp length-set e; each = λ x m k. by-cell x m (eqb cell x) refl }
-  where
-    by_number : (m : ℕ) (t : Bool) → ltb m number ≡ t
-        → ltb m number ≡ (if ltb m (get_or l cell 0) then true else (if ltb m number then leb number low else false))
-    by_number m true f = rw (f, le-leb number low g) (sym (if_same (ltb m (get_or l cell 0)) true))
-    by_number m false f = rw (f, le-ltb m (get_or l cell 0) (omega (arith, ltb-false m number f)))
-
-    by-cell : (x m : ℕ) (t : Bool) → eqb cell x ≡ t
-        → ltb m (get_or (set l cell number) x 0) ≡ (if ltb m (get_or l x 0) then true else
-        (if t then (if ltb m number then leb number low else false) else false))
-    by-cell x m true f =
-        let same : cell ≡ x = eqb-true cell x f in
-        rw (← same, get_or-set_same l cell number 0 (omega arith)) (by_number m (ltb m number) refl)
-    by-cell x m false f = rw (get_or-set_other l cell x number 0 (λ z. eqb-false cell x f (sym z))) (sym (if_itself (ltb m (get_or l x 0))))
 
 -- what is wanted of all rows: before any is noted, one row more, and after all
 abbrev pub Wanted : List Row → ℕ → ℕ → List ℕ → List ℕ → ℕ → Type 0

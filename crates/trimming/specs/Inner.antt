@@ -1,14 +1,13 @@
 -- What the contracts of inner functions need beyond the words of the papers: nobody has to believe it.
 -- Assumes nothing.
-use Rattle.std.specs.Prelude.{ℕ, ◌<◌, List, Bool, true, false, ◌≡◌, get_or, length, eqb, leb, ltb}
+use Rattle.spec.specs.Numbers.{Number}
+use Rattle.std.specs.Prelude.{ℕ, ◌<◌, List, Bool, true, false, ◌≡◌, get_or, length, eqb, leb, ltb, None, Some}
 use Rattle.spec.specs.Rows.{data_width, commit_width, data_rows_in, commit_rows_in, Row, row_at, tag_of}
 use Rattle.removal.specs.Inner.{Left}
 use Rattle.spec.specs.Trim.{stays, trimmed_rows, trimmed_commits, later}
 use Rattle.std.specs.Prelude.{if◌then◌else◌}
 use Rattle.spec.specs.Look.{commit_of}
 use Rattle.spec.specs.Share.{any}
-use Rattle.spec.specs.declared.Number.{Number}
-use Rattle.spec.specs.declared.Number.TheVariants.{Some, None}
 
 -- ---- What a trim leaves of both buffers, for its promise.
 

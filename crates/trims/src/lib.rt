@@ -1,64 +1,55 @@
 // Trim: rows that a later commit has replaced for every reader go.
 #![tactic(auto)]
 
-ghost use Rattle.std.specs.Prelude.{◌≡◌, List, ℕ, ◌*◌, ◌≤◌, length};
+ghost use Rattle.std.specs.Prelude.{◌*◌, ◌≤◌, length};
 ghost use Rattle.spec.specs.Rows.{data_width, commit_width};
-ghost use Rattle.spec.specs.Image.{clients_of};
-ghost use Rattle.spec.specs.Answers.{figure_of};
-ghost use Rattle.spec.specs.Bytes.{decode};
-ghost use Rattle.spec.specs.Calls.{low, trim};
-ghost use Rattle.record.specs.Inner.{whole, columns, unseen, PerformsOn, Transforms, shared};
+ghost use Rattle.spec.specs.Answers.{Answered, answer_of};
+ghost use Rattle.trims.specs.Inner.{TrimsBy, Trims};
 
-use record::{FigureResult, Head, NO_SNAPSHOT};
-use spec::{CLIENTS, FigureAnswer, Refusal};
+use record::Head;
+use spec::{Answer, CLIENTS, Refusal};
 
-// Trim's work by low, in every image whose low it is.
-fn trim_by(h: Head, rows: &mut [u8], commits: &mut [u8], lowest: u32) -> FigureResult
-    requires used_in_bounds { data_width * h.used ≤ length rows.old }
-    requires used_bound { h.used ≤ 1024 }
-    requires entries_in_bounds { commit_width * h.entries ≤ length commits.old }
-    requires entries_bound { h.entries ≤ 1024 }
-    ensures { (g n s q m b w : List ℕ)
-        → ((v : List ℕ)
-        → lowest ≡ low (decode (whole h (clients_of g n s q m b w)) rows.old commits.old v))
-        → Transforms trim h
-        (columns (unseen g) (unseen n) (unseen s) (unseen q) (unseen m) (unseen b) (unseen w)) rows commits
-        result.head (figure_of result.answer) }
+// Trim's work by low, in every image whose low it is. It is kept apart, so that its tables are in no other call's frame.
+#[inline(never)]
+#[tactic(auto, unfolding(spec::specs::Calls::trimmed_to), using(crate::proofs::Outcomes::trimmed))]
+fn trim_by(head: &mut Head, rows: &mut [u8], commits: &mut [u8], lowest: u32) -> u32
+    requires used_in_bounds { data_width * head.old.used ≤ length rows.old }
+    requires used_bound { head.old.used ≤ 1024 }
+    requires entries_in_bounds { commit_width * head.old.entries ≤ length commits.old }
+    requires entries_bound { head.old.entries ≤ 1024 }
+    ensures { TrimsBy lowest head.old rows.old commits.old head.new rows.new commits.new (Answered result) }
 {
-    let used = h.used as usize;
-    let entries = h.entries as usize;
-    let left = marking::trim(rows, used, commits, entries, lowest);
+    let left = marking::trim(
+        rows,
+        head.used as usize,
+        commits,
+        head.entries as usize,
+        lowest,
+    );
     let kept = left.rows as u32;
+    let gone = head.used - kept;
     let rest = left.commits as u32;
-    let mut next = h;
-    next.used = kept;
-    next.entries = rest;
-    FigureResult {
-        head: next,
-        answer: FigureAnswer::Answered(h.used - kept),
-    }
+    head.used = kept;
+    head.entries = rest;
+    gone
 }
 
 // Trim answers how many data rows went.
+#[tactic(auto, unfolding(spec::specs::Bytes::on_bytes, spec::specs::Calls::trim), using(crate::proofs::Outcomes::trimmed))]
 pub fn trim(
-    h: Head,
+    head: &mut Head,
     stage: &[u32; CLIENTS],
     number: &[u32; CLIENTS],
     snapshot: &[u32; CLIENTS],
     rows: &mut [u8],
     commits: &mut [u8],
-) -> FigureResult
-    ensures { (q m b w : List ℕ) → PerformsOn trim h
-        (columns (shared stage) (shared number) (shared snapshot) (unseen q) (unseen m) (unseen b) (unseen w)) rows commits
-        result.head (figure_of result.answer) }
+) -> Answer<u32>
+    ensures { Trims stage.now number.now snapshot.now head.old rows.old commits.old
+        head.new rows.new commits.new (answer_of result) }
 {
-    if !record::fit(h, stage, rows.len(), commits.len()) {
-        return record::no_figure(h, Refusal::Unfit);
+    if !head.fit(stage, rows.len(), commits.len()) {
+        return Err(Refusal::Unfit);
     }
-    let best = record::smallest_open(number, snapshot);
-    // called twice, it is kept apart by the compiler: its tables are in no other call's frame
-    if best < NO_SNAPSHOT {
-        return trim_by(h, rows, commits, best as u32);
-    }
-    trim_by(h, rows, commits, h.last)
+    let lowest = record::smallest_open(number, snapshot).unwrap_or(head.last);
+    Ok(trim_by(head, rows, commits, lowest))
 }

@@ -13,18 +13,18 @@ use Rattle.spec.specs.Set.{clients, bit, member, remove, strike}
 use Rattle.spec.proofs.Sets.{bit-zero, bit-suc, member_above, member-remove, remove-le, same_members, member-strike}
 
 -- client k is below the width w, and a member of s
-pub record Found (w s k : ℕ) : Type 0 where
+pub record LowestDigit (w s k : ℕ) : Type 0 where
   pub below : k < w
   pub inside : member s k ≡ true
 
 -- a set that is not empty has a member where its trailing zeros end
-pub lowest : (w s : ℕ) → (s ≡ 0 → ⊥) → s < 2 ^ w → Found w s (count_trailing_zeros w s)
+pub lowest : (w s : ℕ) → (s ≡ 0 → ⊥) → s < 2 ^ w → LowestDigit w s (count_trailing_zeros w s)
 unfolding count_trailing_zeros member
 lowest zero s n h = absurd (n (omega arith))
 lowest (suc w) s n h = go (λ q. lowest w (s / 2) q (omega (arith, pow-suc 2 w))) (s % 2) refl
   where
-    go : ((s / 2 ≡ 0 → ⊥) → Found w (s / 2) (count_trailing_zeros w (s / 2)))
-        → (d : ℕ) → s % 2 ≡ d → Found (suc w) s (under d (count_trailing_zeros w (s / 2)))
+    go : ((s / 2 ≡ 0 → ⊥) → LowestDigit w (s / 2) (count_trailing_zeros w (s / 2)))
+        → (d : ℕ) → s % 2 ≡ d → LowestDigit (suc w) s (under d (count_trailing_zeros w (s / 2)))
     go higher zero e =
         let l = higher (λ q. n (omega arith)) in
         record { below = omega (arith, l.below); inside = rw (bit-suc s (count_trailing_zeros w (s / 2))) l.inside }
@@ -42,15 +42,6 @@ pub record Looked (p : ℕ → Bool) (list out rest : ℕ) : Type 0 where
   pub out_fits : out < 2 ^ clients
   pub rest_fits : rest < 2 ^ clients
   pub members : (j : ℕ) → member out j ≡ (if not (member rest j) && p j then false else member list j)
-
--- at first all clients of the list are still to be looked at
-pub looked_none : (p : ℕ → Bool) (list : ℕ) → list < 2 ^ clients → Looked p list list list
-looked_none p list h = record { out_fits = h; rest_fits = h; members = λ j. go (member list j) (p j) }
-  where
-    go : (m t : Bool) → m ≡ (if not m && t then false else m)
-    go true t = refl
-    go false true = refl
-    go false false = refl
 
 -- one client more has been looked at
 module _ (p : ℕ → Bool) (list out rest k : ℕ) (l : Looked p list out rest) (rest' : ℕ) (f : rest' ≡ remove rest k) where

@@ -9,6 +9,7 @@ ghost use Rattle.spec.specs.Steps.{queued, struck};
 use spec::{CLIENTS, Queue, Set};
 
 // Whether a client at this stage is in the queue.
+#[tactic(auto, unfolding(spec::specs::Steps::queued))]
 fn in_queue(queue: Queue, stage: u32) -> bool
     ensures { result ≡ queued queue stage }
 {
@@ -32,6 +33,7 @@ pub fn others(queue: Queue, stage: &[u32; CLIENTS], client: u32) -> Set
 }
 
 // Whether a look by a client with number own strikes a client at this stage with this number.
+#[tactic(auto, unfolding(spec::specs::Steps::struck))]
 fn strikes(queue: Queue, own: u32, stage: u32, number: u32) -> bool
     ensures { result ≡ struck queue own stage number }
 {
@@ -73,9 +75,8 @@ pub fn clear_all(lists: [Set; CLIENTS], client: u32) -> [Set; CLIENTS]
     ensures { result ≡ cleared client lists }
 {
     let mut out = lists;
-    for i in 0..CLIENTS {
-        let list = out[i];
-        out[i] = sets::without(list, client);
+    for list in out.iter_mut() {
+        *list = sets::without(*list, client);
     }
     out
 }

@@ -7,53 +7,20 @@
 ghost use Rattle.std.specs.Prelude.{◌≡◌, List, ℕ};
 ghost use Rattle.spec.specs.Calls.{abandon, begin, free, read, trim, write};
 ghost use Rattle.spec.specs.Steps.{advance};
-ghost use Rattle.spec.specs.Told.{told_of, figure_told, begin_told, read_told, advance_told};
-ghost use Rattle.record.specs.Inner.{columns, unseen, shared};
-ghost use Rattle.reads.specs.Inner.{read_columns};
-ghost use Rattle.wellcherry.specs.Inner.{head_in, TellsOn, TellsWith, TellsNew};
+ghost use Rattle.spec.specs.Bytes.{memory_of};
+ghost use Rattle.spec.specs.Told.{told_of, figure_told, begin_told, read_told, advance_told, TellsSetUp};
+ghost use Rattle.wellcherry.specs.Inner.{head_in, store_from, TellsOn, TellsWith};
 
-use record::Head;
+use record::{Head, Record};
 use spec::{CLIENTS, Set, VERSIONS};
+use telling::{AdvanceGiven, BeginGiven, FigureGiven, ReadGiven};
 
 // How many numbers a record has beside its arrays.
 const HEAD: usize = 8;
 
-// What a call hands back: the refusal's number, or 0; then what the call gives, zeros where it is refused.
-#[repr(C)]
-#[derive(Clone, Copy)]
-pub struct FigureGiven {
-    pub refusal: u32,
-    pub figure: u32,
-}
-
-#[repr(C)]
-#[derive(Clone, Copy)]
-pub struct BeginGiven {
-    pub refusal: u32,
-    pub number: u32,
-    pub snapshot: u32,
-}
-
-// 1 and the data row in which the value stands, or 0 for an unwritten cell.
-#[repr(C)]
-#[derive(Clone, Copy)]
-pub struct ReadGiven {
-    pub refusal: u32,
-    pub found: u32,
-    pub row: usize,
-}
-
-// 1 Stage, 2 Waiting, 3 Conflict, 4 Done, and its number.
-#[repr(C)]
-#[derive(Clone, Copy)]
-pub struct AdvanceGiven {
-    pub refusal: u32,
-    pub progress: u32,
-    pub number: u32,
-}
-
 // ---- the numbers of a record, where the caller holds them
 
+#[tactic(auto, unfolding(crate::specs::Inner::head_in))]
 fn head_in(head: &[u32; HEAD]) -> Head
     ensures { result ≡ head_in head.now }
 {
@@ -69,6 +36,7 @@ fn head_in(head: &[u32; HEAD]) -> Head
     }
 }
 
+#[tactic(auto, unfolding(crate::specs::Inner::head_in))]
 fn put_head(head: &mut [u32; HEAD], h: Head)
     ensures { head_in head.new ≡ h }
 {
@@ -103,11 +71,14 @@ pub extern "C" fn wellcherry_call_set_up(
     first: u32,
     limit: u32,
 ) -> FigureGiven
-    ensures { TellsNew rows.old commits.old first limit head
-        (columns stage number snapshot request commit request_waits commit_waits) rows commits versions
+    ensures { TellsSetUp rows.old commits.old first limit
+        (memory_of
+        (store_from head.new stage.new number.new snapshot.new request.new commit.new request_waits.new commit_waits.new)
+        rows.new commits.new versions.new)
         (told_of result.refusal result.figure 0) }
 {
-    let done = starts::set_up_in(
+    let mut r = Record {
+        head: head_in(head),
         stage,
         number,
         snapshot,
@@ -115,20 +86,10 @@ pub extern "C" fn wellcherry_call_set_up(
         commit,
         request_waits,
         commit_waits,
-        rows,
-        commits,
-        versions,
-        first,
-        limit,
-    );
-    let next = done.head;
-    put_head(head, next);
-    let answer = done.answer;
-    let told = telling::figure_told(answer);
-    FigureGiven {
-        refusal: told.refusal,
-        figure: told.figure,
-    }
+    };
+    let answer = starts::set_up_in(&mut r, rows, commits, versions, first, limit);
+    put_head(head, r.head);
+    answer.into()
 }
 
 // Begin: the transaction's number and its snapshot.
@@ -146,12 +107,13 @@ pub extern "C" fn wellcherry_call_begin(
     commits: &[u8],
     client: u32,
 ) -> BeginGiven
-    ensures { TellsOn begin_told (begin client) head
-        (columns stage number snapshot request commit request_waits commit_waits) (shared rows) (shared commits)
+    ensures { TellsOn begin_told (begin client)
+        (store_from head.old stage.old number.old snapshot.old request.old commit.old request_waits.old commit_waits.old) rows.now commits.now
+        (store_from head.new stage.new number.new snapshot.new request.new commit.new request_waits.new commit_waits.new) rows.now commits.now
         (told_of result.refusal result.number result.snapshot) }
 {
-    let done = begins::begin(
-        head_in(head),
+    let mut r = Record {
+        head: head_in(head),
         stage,
         number,
         snapshot,
@@ -159,19 +121,10 @@ pub extern "C" fn wellcherry_call_begin(
         commit,
         request_waits,
         commit_waits,
-        rows,
-        commits,
-        client,
-    );
-    let next = done.head;
-    put_head(head, next);
-    let answer = done.answer;
-    let told = telling::begin_told(answer);
-    BeginGiven {
-        refusal: told.refusal,
-        number: told.first,
-        snapshot: told.second,
-    }
+    };
+    let answer = begins::begin(&mut r, rows, commits, client);
+    put_head(head, r.head);
+    answer.into()
 }
 
 // Read: where the value stands. It is lent what it looks at, and changes nothing but the cell's entry in the version
@@ -188,8 +141,9 @@ pub extern "C" fn wellcherry_call_read(
     client: u32,
     cell: u32,
 ) -> ReadGiven
-    ensures { (q m b w : List ℕ) → TellsWith read_told (read client cell) (shared head)
-        (read_columns stage number snapshot q m b w) (shared rows) (shared commits) versions
+    ensures { (q m b w : List ℕ) → TellsWith read_told (read client cell)
+        (store_from head.now stage.now number.now snapshot.now q m b w) rows.now commits.now versions.old
+        (store_from head.now stage.now number.now snapshot.now q m b w) rows.now commits.now versions.new
         (told_of result.refusal result.found result.row) }
 {
     let answer = reads::read(
@@ -203,12 +157,7 @@ pub extern "C" fn wellcherry_call_read(
         client,
         cell,
     );
-    let told = telling::read_told(answer);
-    ReadGiven {
-        refusal: told.refusal,
-        found: told.found,
-        row: told.row,
-    }
+    answer.into()
 }
 
 // Write: the free figure.
@@ -223,28 +172,15 @@ pub extern "C" fn wellcherry_call_write(
     cell: u32,
     value: &[u8],
 ) -> FigureGiven
-    ensures { (s q m b w : List ℕ) → TellsOn figure_told (write client cell value.now) head
-        (columns (shared stage) (shared number) (unseen s) (unseen q) (unseen m) (unseen b) (unseen w)) rows (shared commits)
+    ensures { (s q m b w : List ℕ) → TellsOn figure_told (write client cell value.now)
+        (store_from head.old stage.now number.now s q m b w) rows.old commits.now
+        (store_from head.new stage.now number.now s q m b w) rows.new commits.now
         (told_of result.refusal result.figure 0) }
 {
-    let done = writes::write(
-        head_in(head),
-        stage,
-        number,
-        rows,
-        commits,
-        client,
-        cell,
-        value,
-    );
-    let next = done.head;
-    put_head(head, next);
-    let answer = done.answer;
-    let told = telling::figure_told(answer);
-    FigureGiven {
-        refusal: told.refusal,
-        figure: told.figure,
-    }
+    let mut h = head_in(head);
+    let answer = writes::write(&mut h, stage, number, rows, commits, client, cell, value);
+    put_head(head, h);
+    answer.into()
 }
 
 // Advance: one step of the transaction's commit.
@@ -262,12 +198,13 @@ pub extern "C" fn wellcherry_call_advance(
     commits: &mut [u8],
     client: u32,
 ) -> AdvanceGiven
-    ensures { TellsOn advance_told (advance client) head
-        (columns stage number snapshot request commit request_waits commit_waits) rows commits
+    ensures { TellsOn advance_told (advance client)
+        (store_from head.old stage.old number.old snapshot.old request.old commit.old request_waits.old commit_waits.old) rows.old commits.old
+        (store_from head.new stage.new number.new snapshot.new request.new commit.new request_waits.new commit_waits.new) rows.new commits.new
         (told_of result.refusal result.progress result.number) }
 {
-    let done = advances::advance(
-        head_in(head),
+    let mut r = Record {
+        head: head_in(head),
         stage,
         number,
         snapshot,
@@ -275,19 +212,10 @@ pub extern "C" fn wellcherry_call_advance(
         commit,
         request_waits,
         commit_waits,
-        rows,
-        commits,
-        client,
-    );
-    let next = done.head;
-    put_head(head, next);
-    let answer = done.answer;
-    let told = telling::advance_told(answer);
-    AdvanceGiven {
-        refusal: told.refusal,
-        progress: told.first,
-        number: told.second,
-    }
+    };
+    let answer = advances::advance(&mut r, rows, commits, client);
+    put_head(head, r.head);
+    answer.into()
 }
 
 // Abandon: the free figure.
@@ -305,12 +233,13 @@ pub extern "C" fn wellcherry_call_abandon(
     commits: &[u8],
     client: u32,
 ) -> FigureGiven
-    ensures { TellsOn figure_told (abandon client) head
-        (columns stage number snapshot request commit request_waits commit_waits) rows (shared commits)
+    ensures { TellsOn figure_told (abandon client)
+        (store_from head.old stage.old number.old snapshot.old request.old commit.old request_waits.old commit_waits.old) rows.old commits.now
+        (store_from head.new stage.new number.new snapshot.new request.new commit.new request_waits.new commit_waits.new) rows.new commits.now
         (told_of result.refusal result.figure 0) }
 {
-    let done = abandons::abandon(
-        head_in(head),
+    let mut r = Record {
+        head: head_in(head),
         stage,
         number,
         snapshot,
@@ -318,18 +247,10 @@ pub extern "C" fn wellcherry_call_abandon(
         commit,
         request_waits,
         commit_waits,
-        rows,
-        commits,
-        client,
-    );
-    let next = done.head;
-    put_head(head, next);
-    let answer = done.answer;
-    let told = telling::figure_told(answer);
-    FigureGiven {
-        refusal: told.refusal,
-        figure: told.figure,
-    }
+    };
+    let answer = abandons::abandon(&mut r, rows, commits, client);
+    put_head(head, r.head);
+    answer.into()
 }
 
 // Trim: how many data rows went.
@@ -342,19 +263,15 @@ pub extern "C" fn wellcherry_call_trim(
     rows: &mut [u8],
     commits: &mut [u8],
 ) -> FigureGiven
-    ensures { (q m b w : List ℕ) → TellsOn figure_told trim head
-        (columns (shared stage) (shared number) (shared snapshot) (unseen q) (unseen m) (unseen b) (unseen w)) rows commits
+    ensures { (q m b w : List ℕ) → TellsOn figure_told trim
+        (store_from head.old stage.now number.now snapshot.now q m b w) rows.old commits.old
+        (store_from head.new stage.now number.now snapshot.now q m b w) rows.new commits.new
         (told_of result.refusal result.figure 0) }
 {
-    let done = trims::trim(head_in(head), stage, number, snapshot, rows, commits);
-    let next = done.head;
-    put_head(head, next);
-    let answer = done.answer;
-    let told = telling::figure_told(answer);
-    FigureGiven {
-        refusal: told.refusal,
-        figure: told.figure,
-    }
+    let mut h = head_in(head);
+    let answer = trims::trim(&mut h, stage, number, snapshot, rows, commits);
+    put_head(head, h);
+    answer.into()
 }
 
 // Free: the free figure. It changes nothing.
@@ -365,14 +282,11 @@ pub extern "C" fn wellcherry_call_free(
     rows: &[u8],
     commits: &[u8],
 ) -> FigureGiven
-    ensures { (n s q m b w : List ℕ) → TellsOn figure_told free (shared head)
-        (columns (shared stage) (unseen n) (unseen s) (unseen q) (unseen m) (unseen b) (unseen w)) (shared rows) (shared commits)
+    ensures { (n s q m b w : List ℕ) → TellsOn figure_told free
+        (store_from head.now stage.now n s q m b w) rows.now commits.now
+        (store_from head.now stage.now n s q m b w) rows.now commits.now
         (told_of result.refusal result.figure 0) }
 {
     let answer = reads::free(head_in(head), stage, rows, commits);
-    let told = telling::figure_told(answer);
-    FigureGiven {
-        refusal: told.refusal,
-        figure: told.figure,
-    }
+    answer.into()
 }

@@ -1,18 +1,17 @@
 // Write: a row added, or a value replaced where the transaction has a row for the cell.
 #![tactic(auto)]
 
-ghost use Rattle.std.specs.Prelude.{List, ℕ};
-ghost use Rattle.spec.specs.Answers.{figure_of};
-ghost use Rattle.spec.specs.Calls.{write};
-ghost use Rattle.record.specs.Inner.{columns, unseen, PerformsOn, shared};
+ghost use Rattle.spec.specs.Answers.{answer_of};
+ghost use Rattle.writes.specs.Inner.{Writes};
 
-use record::{FigureResult, Head};
+use record::Head;
 use search::Own;
-use spec::{CELLS, CLIENTS, LIMIT, Refusal};
+use spec::{Answer, CELLS, CLIENTS, LIMIT, Refusal};
 
 // Write answers the free figure.
+#[tactic(auto, unfolding(spec::specs::Calls::write, spec::specs::Bytes::on_bytes), using(crate::proofs::Outcomes::written_rows))]
 pub fn write(
-    h: Head,
+    head: &mut Head,
     stage: &[u32; CLIENTS],
     number: &[u32; CLIENTS],
     rows: &mut [u8],
@@ -20,41 +19,36 @@ pub fn write(
     client: u32,
     cell: u32,
     value: &[u8],
-) -> FigureResult
-    ensures { (s q m b w : List ℕ) → PerformsOn (write client cell value.now) h
-        (columns (shared stage) (shared number) (unseen s) (unseen q) (unseen m) (unseen b) (unseen w)) rows (shared commits)
-        result.head (figure_of result.answer) }
+) -> Answer<u32>
+    ensures { Writes client cell value.now stage.now number.now commits.now
+        head.old rows.old head.new rows.new (answer_of result) }
 {
-    if !record::fit(h, stage, rows.len(), commits.len()) {
-        return record::no_figure(h, Refusal::Unfit);
+    if !head.fit(stage, rows.len(), commits.len()) {
+        return Err(Refusal::Unfit);
     }
     if LIMIT <= client {
-        return record::no_figure(h, Refusal::NoClient);
+        return Err(Refusal::NoClient);
     }
     if CELLS <= cell {
-        return record::no_figure(h, Refusal::NoCell);
+        return Err(Refusal::NoCell);
     }
     if value.len() != 16 {
-        return record::no_figure(h, Refusal::WrongLength);
+        return Err(Refusal::WrongLength);
     }
     let k = client as usize;
     let tag = number[k];
     if tag == 0 {
-        return record::no_figure(h, Refusal::NotOpen);
+        return Err(Refusal::NotOpen);
     }
     if stage[k] != 0 {
-        return record::no_figure(h, Refusal::WrongStage);
+        return Err(Refusal::WrongStage);
     }
-    let used = h.used as usize;
-    let own = search::own_row(rows, used, tag, cell);
-    match own {
-        Own::Row(at) => placing::replace_row(h, rows, at, value),
-        Own::Rows(n) => {
-            // who has fewer rows than the limit has fewer cells
-            if n < h.limit as usize {
-                return placing::new_row(h, number, rows, client, cell, value);
-            }
-            placing::counted_row(h, number, rows, client, cell, value)
-        }
+    match search::own_row(rows, head.used as usize, tag, cell) {
+        Own::Row(at) => Ok(placing::replace_row(*head, rows, at, value)),
+        // who has fewer rows than the limit has fewer cells
+        Own::Rows(n) if n < head.limit as usize => placing::new_row(
+            head, number, rows, client, cell, value,
+        ),
+        Own::Rows(_) => placing::counted_row(head, number, rows, client, cell, value),
     }
 }

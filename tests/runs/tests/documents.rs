@@ -165,7 +165,7 @@ fn a_public_name_stands_once() {
             let in_record = above.last().is_some_and(|outer| outer.trim_start().trim_start_matches("pub ").starts_with("record "));
             let rest = line.trim_start().trim_start_matches("abbrev ").trim_start_matches("unfoldable ");
             if let Some(rest) = rest.strip_prefix("pub ").filter(|_| !in_record) {
-                let name = rest.trim_start_matches("record ").trim_start_matches("data ").split(' ').next().unwrap();
+                let name = rest.trim_start_matches("record ").trim_start_matches("data ").trim_start_matches("ruleset ").split(' ').next().unwrap();
                 places.entry(name.to_string()).or_default().insert(format!("{folder}/{file}"));
             }
             above.push(line);

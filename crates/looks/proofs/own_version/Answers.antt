@@ -16,15 +16,6 @@ loop-i-init c =
           (own_first a.tag a.cell a.k a.rows.now a.k (omega arith) c.requires.rows_value c.requires.rows_value_2),
     )
 
-pub cell_at-requires : goal.cell_at-requires
-cell_at-requires c = omega (arith, c.loop-i.invariant.0)
-
-pub last_tagged-i-requires-in-loop-i : goal.last_tagged-i-requires-in-loop-i
-last_tagged-i-requires-in-loop-i c = omega (arith, c.loop-i.invariant.0)
-
-pub loop-i-smaller : goal.loop-i-smaller
-loop-i-smaller c = omega (arith, c.last_tagged-i-in-loop-i.ensures.end)
-
 pub loop-i-preserved : goal.loop-i-preserved
 loop-i-preserved c =
     let cell = c.cell_at.ensures in
@@ -36,7 +27,13 @@ loop-i-preserved c =
     let e : loop.i ≡ j + 1 = omega arith in
     let own : FirstOwn a.tag a.cell a.k a.rows.now (j + 1) loop.at = rw (← e) loop.invariant.2 in
     let here : FirstOwn a.tag a.cell a.k a.rows.now j c.if-cell_at-cell.at =
-    elim c.if-cell_at-cell.branch [ then-cell_at-cell w ↦ rw w.at-is (own_first a.tag a.cell a.k a.rows.now j (omega (arith, h)) (loop.invariant.1 (omega arith)) (sym cell ∙ w.if-cell_at-cell.true)) | else-cell_at-cell w ↦ rw w.at-is (own-not-cell a.tag a.cell a.k a.rows.now j loop.at h own (λ f. w.if-cell_at-cell.false (cell ∙ f))) ] in (
+    elim c.if-cell_at-cell.branch [
+      | then-cell_at-cell w ↦
+          rw w.at-is (own_first a.tag a.cell a.k a.rows.now j (omega (arith, h)) (loop.invariant.1 (omega arith))
+          (sym cell ∙ w.if-cell_at-cell.true))
+      | else-cell_at-cell w ↦
+          rw w.at-is (own-not-cell a.tag a.cell a.k a.rows.now j loop.at h own (λ f. w.if-cell_at-cell.false (cell ∙ f)))
+    ] in (
       omega (arith, pass.end, h),
       pass.hit,
       own_past a.tag a.cell a.k a.rows.now j c.last_tagged-i-in-loop-i.result c.if-cell_at-cell.at (omega (arith, h)) pass here,

@@ -1,12 +1,12 @@
 -- `looks::recent_commit`: committed rows before row from are numbered below least, so that a row with the tag counts only from there on, and only if
 -- none before it has the tag.
+use Rattle.std.specs.Prelude.{Some}
 use Prim.Native.Nat.{ℕ, ◌≤◌, ◌<◌}
 use mathlib.Core.Path.{◌≡◌, sym, ap, ◌∙◌}
 use mathlib.Core.List.{List}
 use native.Mathlib.Decide.{dec_lt}
 use native.Mathlib.Omega.{arith}
 use Rattle.spec.specs.Rows.{row_at, commit_number, commit_tag}
-use Rattle.spec.specs.declared.Number.TheVariants.{Some}
 use Rattle.spec.specs.Numbers.{at_least, up_to}
 use Rattle.search.specs.Inner.{Next}
 use Rattle.search.proofs.Folds.{commit_first}

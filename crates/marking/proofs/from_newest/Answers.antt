@@ -29,27 +29,6 @@ returns-then-not-link_all-clause-value c =
     sym (disorder_commits (rows_in 24 a.used a.rows.now) (rows_in 8 a.entries a.commits.now)
     (sym c.link_all.ensures.value ∙ c.if-not-link_all.true))
 
-pub overflow_cast-open : goal.overflow_cast-open
-overflow_cast-open c =
-    let a = c.args in
-    let l = c.link_all.ensures.rows_linked c.if-not-link_all.false in
-    omega (arith, (l.head a.entries (omega (arith, c.requires.entries_bound))).end, c.requires.used_bound)
-
-pub open_plain_from-requires : goal.open_plain_from-requires
-open_plain_from-requires c =
-    let a = c.args in
-    let linked = c.link_all.ensures.rows_linked c.if-not-link_all.false in
-    record {
-      used_in_bounds = c.requires.used_in_bounds;
-      used_bound = c.requires.used_bound;
-      follows_len = linked.room;
-      some_tag_walk = record {
-        key = _;
-        at = _;
-        walk = walk a.used a.entries a.rows.now a.commits.now _ _ c.requires.entries_bound linked;
-      };
-    }
-
 pub returns-then-not-open_plain_from-clause-value : goal.returns-then-not-open_plain_from-clause-value
 returns-then-not-open_plain_from-clause-value c =
     let a = c.args in
@@ -59,22 +38,25 @@ returns-then-not-open_plain_from-clause-value c =
     sym (disorder_rows (rows_in 24 a.used a.rows.now) (rows_in 8 a.entries a.commits.now)
     ((test.ensures _ _ chain).not_plain c.if-not-open_plain_from.true))
 
-pub serve_all-requires : goal.serve_all-requires
-serve_all-requires c =
+pub serve_all-requires-clause-marks : goal.serve_all-requires-clause-marks
+serve_all-requires-clause-marks c =
     let a = c.args in
-    let pre = c.requires in
-    record {
-      used_in_bounds = pre.used_in_bounds;
-      used_bound = pre.used_bound;
-      entries_in_bounds = pre.entries_in_bounds;
-      entries_bound = pre.entries_bound;
-      commits_value = sym c.link_all.ensures.value ∙ c.if-not-link_all.false;
-      rows_linked = c.link_all.ensures.rows_linked c.if-not-link_all.false;
-      marks = rw pre.marks_value (marks_start a.low a.used a.entries a.rows.now a.commits.now);
-      so_far = plain_start a.low a.used a.entries a.rows.now a.commits.now;
-      judged = rw pre.flags_value (judged_start a.low a.used a.entries a.rows.now a.commits.now pre.used_bound);
-      used = rw pre.uses_value (used_start a.low a.used a.entries a.rows.now a.commits.now pre.entries_bound);
-    }
+    rw c.requires.marks_value (marks_start a.low a.used a.entries a.rows.now a.commits.now)
+
+pub serve_all-requires-clause-so_far : goal.serve_all-requires-clause-so_far
+serve_all-requires-clause-so_far c =
+    let a = c.args in
+    plain_start a.low a.used a.entries a.rows.now a.commits.now
+
+pub serve_all-requires-clause-judged : goal.serve_all-requires-clause-judged
+serve_all-requires-clause-judged c =
+    let a = c.args in
+    rw c.requires.flags_value (judged_start a.low a.used a.entries a.rows.now a.commits.now c.requires.used_bound)
+
+pub serve_all-requires-clause-used : goal.serve_all-requires-clause-used
+serve_all-requires-clause-used c =
+    let a = c.args in
+    rw c.requires.uses_value (used_start a.low a.used a.entries a.rows.now a.commits.now c.requires.entries_bound)
 
 pub returns-clause-value : goal.returns-clause-value
 returns-clause-value c =

@@ -1,25 +1,15 @@
 -- By flags that were both set before, or the old way, where the bytes are not orderly.
-use mathlib.Core.Path.{sym, ◌∙◌}
-use Rattle.orderly.proofs.Order.{differ}
 use Rattle.serving.proofs.Marking.{judged_end, used_end}
 use Rattle.marking.proofs.KeptRows.{trimmed_kept}
 use Rattle.marking.proofs.trim_marking.Goals as goal
 
-pub returns-then-from_newest : goal.returns-then-from_newest
-returns-then-from_newest c =
+pub returns-then-from_newest-clause-trimmed : goal.returns-then-from_newest-clause-trimmed
+returns-then-from_newest-clause-trimmed c =
     let a = c.args in
     let newest = c.from_newest in
     let orderly = c.if-from_newest.true in
-    record {
-      trimmed = trimmed_kept a.low a.used a.entries a.rows.now a.commits.now _ _ c.close_up-left.new.buf c.close_up-kept.new.buf
-          c.close_up-left.result c.close_up-kept.result
-          (judged_end a.low a.used a.entries a.rows.now a.commits.now _ (newest.ensures.judged orderly))
-          (used_end a.low a.used a.entries a.rows.now a.commits.now _ (newest.ensures.used orderly))
-          c.close_up-left.ensures c.close_up-kept.ensures;
-      worked = record { from_newest = λ e. newest.ensures.marks orderly };
-    }
-
-pub returns : goal.returns
-returns c =
-    let disorderly = sym c.from_newest.ensures.value ∙ c.if-from_newest.false in
-    record { trimmed = c.trim.ensures; worked = record { from_newest = λ e. absurd (differ e disorderly) } }
+    trimmed_kept a.low a.used a.entries a.rows.now a.commits.now _ _ c.close_up-left.new.buf c.close_up-kept.new.buf
+    c.close_up-left.result c.close_up-kept.result
+    (judged_end a.low a.used a.entries a.rows.now a.commits.now _ (newest.ensures.judged orderly))
+    (used_end a.low a.used a.entries a.rows.now a.commits.now _ (newest.ensures.used orderly))
+    c.close_up-left.ensures c.close_up-kept.ensures

@@ -12,15 +12,6 @@ loop-i-init c = λ key x w. (
   flagged_start key x c.args.used c.requires.used_bound c.args.flags.now c.requires.flags_value c.args.first w.start,
 )
 
-pub overflow_cast-i : goal.overflow_cast-i
-overflow_cast-i c =
-    let rises : let a = c.args in
-    let i = c.loop-i.i in (i < get_or a.follows.now i 0) × (get_or a.follows.now i 0 ≤ a.used) = let a = c.args in
-    let some = c.requires.some_walk in
-    chain-rises some.key a.used a.follows.now some.at c.loop-i.i c.loop-i-test.true
-    (c.loop-i.invariant some.key some.at some.walk).0 in
-    omega (arith, rises, c.requires.used_bound)
-
 pub loop-i-smaller : goal.loop-i-smaller
 loop-i-smaller c =
     let rises : let a = c.args in

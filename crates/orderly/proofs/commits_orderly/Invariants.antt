@@ -8,11 +8,8 @@ use Rattle.orderly.specs.Inner.{tag_place, Linked}
 use Rattle.spec.specs.Orderly.{under, orderly_commits}
 use Rattle.orderly.proofs.commits_orderly.Given as goal
 
-abbrev pub invariant-loop-i : goal.invariant-loop-i
-invariant-loop-i l =
-    (l.i ≤ l.entries) × Linked 4096 (tag_place l.commits) l.entries l.i l.heads l.nexts
-    × (orderly_commits (rows_from 8 l.entries l.i l.commits) ≡ true)
-    × ((v : ℕ) → v < 4294967296 → under v (rows_from 8 l.entries l.i l.commits) ≡ ltb v l.above)
-
-abbrev pub decreases-loop-i : goal.decreases-loop-i
-decreases-loop-i l = l.i
+abbrev pub invariant-loop-k : goal.invariant-loop-k
+invariant-loop-k l =
+    (l.k ≤ l.entries) × Linked 4096 (tag_place l.commits) l.entries l.k l.heads l.nexts
+    × (orderly_commits (rows_from 8 l.entries l.k l.commits) ≡ true)
+    × ((v : ℕ) → v < 4294967296 → under v (rows_from 8 l.entries l.k l.commits) ≡ ltb v l.above)

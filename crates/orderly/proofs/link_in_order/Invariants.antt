@@ -2,9 +2,6 @@
 use Rattle.orderly.proofs.InOrder.{Along}
 use Rattle.orderly.proofs.link_in_order.Given as goal
 
-abbrev pub invariant-loop-i : goal.invariant-loop-i
-invariant-loop-i l =
-    Along l.used l.entries l.rows l.commits l.firsts l.follows l.at l.run l.last l.i
-
-abbrev pub decreases-loop-i : goal.decreases-loop-i
-decreases-loop-i l = l.i
+abbrev pub invariant-loop-k : goal.invariant-loop-k
+invariant-loop-k l =
+    Along l.used l.entries l.rows l.commits l.firsts l.follows l.at l.run l.last l.k

@@ -5,9 +5,7 @@ use Rattle.spec.specs.Rows.{rows_in}
 use Rattle.orderly.specs.Inner.{entry_of, row_entry, entry_places, Linked}
 use Rattle.orderly.proofs.link_rows.Given as goal
 
-abbrev pub invariant-loop-i : goal.invariant-loop-i
-invariant-loop-i l =
-    (l.i ≤ l.used) × Linked entry_places (row_entry l.entries l.commits l.rows) l.used l.i l.firsts l.follows × (l.at ≡ entry_of l.last (rows_in 8 l.entries l.commits))
-
-abbrev pub decreases-loop-i : goal.decreases-loop-i
-decreases-loop-i l = l.i
+abbrev pub invariant-loop-k : goal.invariant-loop-k
+invariant-loop-k l =
+    (l.k ≤ l.used) × Linked entry_places (row_entry l.entries l.commits l.rows) l.used l.k l.firsts l.follows
+    × (l.at ≡ entry_of l.last (rows_in 8 l.entries l.commits))

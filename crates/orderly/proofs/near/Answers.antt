@@ -18,7 +18,11 @@ returns-then-at-eq0 c =
     let a = c.args in
     -- the tag of row at is above
     let above : a.at < a.entries → a.tag < commit_tag (row_at 8 a.at a.commits.now) = λ h.
-    elim c.if-at-entries.branch [ then-at-entries+else-tag-here+else-here-tag v ↦ omega (arith, v.commit_tag_at-here.ensures, v.if-tag-here.false, v.if-here-tag.false) | else-at-entries v ↦ absurd (omega (arith, v.if-at-entries.false)) ] in
+    elim c.if-at-entries.branch [
+      | then-at-entries+else-tag-here+else-here-tag v ↦
+          omega (arith, v.commit_tag_at-here.ensures, v.if-tag-here.false, v.if-here-tag.false)
+      | else-at-entries v ↦ absurd (omega (arith, v.if-at-entries.false))
+    ] in
     let low = c.if-at-eq0.true in
     λ l. sym (entry_none a.entries a.commits.now c.requires.tags_rise a.tag a.at c.requires.at_le_entries
     (λ h. absurd (omega (arith, low))) above)
@@ -28,6 +32,10 @@ returns-then-commit_tag_at-tag c =
     let a = c.args in
     -- the tag of row at is above
     let above : a.at < a.entries → a.tag < commit_tag (row_at 8 a.at a.commits.now) = λ h.
-    elim c.if-at-entries.branch [ then-at-entries+else-tag-here+else-here-tag v ↦ omega (arith, v.commit_tag_at-here.ensures, v.if-tag-here.false, v.if-here-tag.false) | else-at-entries v ↦ absurd (omega (arith, v.if-at-entries.false)) ] in
+    elim c.if-at-entries.branch [
+      | then-at-entries+else-tag-here+else-here-tag v ↦
+          omega (arith, v.commit_tag_at-here.ensures, v.if-tag-here.false, v.if-here-tag.false)
+      | else-at-entries v ↦ absurd (omega (arith, v.if-at-entries.false))
+    ] in
     λ l. sym (entry_none a.entries a.commits.now c.requires.tags_rise a.tag a.at c.requires.at_le_entries
     (λ h. omega (arith, c.commit_tag_at.ensures, c.if-commit_tag_at-tag.true)) above)

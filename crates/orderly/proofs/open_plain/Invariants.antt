@@ -3,8 +3,5 @@
 use Rattle.orderly.proofs.Open.{Tested}
 use Rattle.orderly.proofs.open_plain.Given as goal
 
-abbrev pub invariant-loop-i : goal.invariant-loop-i
-invariant-loop-i l = Tested l.used l.rows l.flags l.heads l.nexts l.i
-
-abbrev pub decreases-loop-i : goal.decreases-loop-i
-decreases-loop-i l = l.i
+abbrev pub invariant-loop-k : goal.invariant-loop-k
+invariant-loop-k l = Tested l.used l.rows l.flags l.heads l.nexts l.k

@@ -5,7 +5,7 @@ use Rattle.spec.specs.Rows.{row_at, tag_of, cell_of}
 use Rattle.search.proofs.Folds.{wrote_end}
 use Rattle.orderly.proofs.Chains.{chain_next, chain_more}
 use Rattle.orderly.proofs.Walks.{own_miss, own_here, pair_skip}
-use Rattle.orderly.proofs.own_chained.Goals.{else-tag_at-tag, then-tag_at-tag+else-cell_at-cell}
+use Rattle.orderly.proofs.own_chained.Goals.{else-tag_at-tag-via-else-tag_at-tag, else-tag_at-tag-via-then-tag_at-tag+else-cell_at-cell}
 use Rattle.orderly.proofs.own_chained.Goals as goal
 
 pub returns-then-cell_at-cell : goal.returns-then-cell_at-cell
@@ -23,7 +23,10 @@ loop-i-preserved c =
     let h = c.loop-i-test.true in
     -- the row that was met is not the one
     let other : tag_of (row_at 24 loop.i a.rows.now) ≡ a.tag → cell_of (row_at 24 loop.i a.rows.now) ≡ a.cell → ⊥ = λ e f.
-    elim c.if-tag_at-tag.branch [ then-tag_at-tag+else-cell_at-cell w ↦ w.if-cell_at-cell.false (w.cell_at.ensures ∙ f) | else-tag_at-tag w ↦ w.if-tag_at-tag.false (c.tag_at.ensures ∙ e) ] in (
+    elim c.else-tag_at-tag.branch [
+      | else-tag_at-tag-via-then-tag_at-tag+else-cell_at-cell w ↦ w.if-cell_at-cell.false (w.cell_at.ensures ∙ f)
+      | else-tag_at-tag-via-else-tag_at-tag w ↦ w.if-tag_at-tag.false (c.tag_at.ensures ∙ e)
+    ] in (
       record {
         key = walk.key;
         at = walk.at;

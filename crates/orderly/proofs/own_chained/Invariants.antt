@@ -8,7 +8,8 @@ use Rattle.orderly.proofs.own_chained.Given as goal
 
 abbrev pub invariant-loop-i : goal.invariant-loop-i
 invariant-loop-i l =
-    PairWalk l.used l.rows l.nexts l.tag l.cell l.i × (wrote (rows_from 24 l.used l.from l.rows) l.tag l.cell ≡ wrote (rows_from 24 l.used l.i l.rows) l.tag l.cell)
+    PairWalk l.used l.rows l.nexts l.tag l.cell l.i
+    × (wrote (rows_from 24 l.used l.from l.rows) l.tag l.cell ≡ wrote (rows_from 24 l.used l.i l.rows) l.tag l.cell)
 
 abbrev pub decreases-loop-i : goal.decreases-loop-i
 decreases-loop-i l = l.used - l.i

@@ -1,19 +1,10 @@
 -- The row at the tag's place is the first with the tag, or none is there, or another tag has the place.
-use Prim.Native.Nat.{◌≤◌}
 use mathlib.Core.Path.{◌≡◌, sym, ap, ◌∙◌}
 use lib.ListN.{get_or}
-use native.Mathlib.Omega.{arith}
-use Rattle.spec.specs.declared.Number.TheVariants.{Some}
+use Rattle.std.specs.Prelude.{Some}
 use Rattle.places.specs.Inner.{place}
-use Rattle.places.proofs.Places.{at_most, commit_nowhere, commit_found}
+use Rattle.places.proofs.Places.{commit_nowhere, commit_found}
 use Rattle.places.proofs.commit_at.Goals as goal
-
-pub overflow_cast-at : goal.overflow_cast-at
-overflow_cast-at c =
-    let at_place : get_or c.args.places.now c.place_of-x.result 0 ≡ get_or c.args.places.now
-    (place c.args.tag) 0 = rw c.place_of-x.ensures.0 in
-    let within : get_or c.args.places.now c.place_of-x.result 0 ≤ c.args.entries = at_most _ c.args.entries c.args.places.now c.requires.places c.args.tag _ at_place in
-    omega (arith, within)
 
 pub returns-then-at-eq0 : goal.returns-then-at-eq0
 returns-then-at-eq0 c =
@@ -21,20 +12,6 @@ returns-then-at-eq0 c =
     (place c.args.tag) 0 = rw c.place_of-x.ensures.0 in
     let a = c.args in
     sym (commit_nowhere a.entries a.commits.now a.places.now c.requires.places a.tag _ at_place c.if-at-eq0.true)
-
-pub commit_tag_at-requires : goal.commit_tag_at-requires
-commit_tag_at-requires c =
-    let at_place : get_or c.args.places.now c.place_of-x.result 0 ≡ get_or c.args.places.now
-    (place c.args.tag) 0 = rw c.place_of-x.ensures.0 in
-    let within : get_or c.args.places.now c.place_of-x.result 0 ≤ c.args.entries = at_most _ c.args.entries c.args.places.now c.requires.places c.args.tag _ at_place in
-    omega (arith, within)
-
-pub commit_number_at-requires : goal.commit_number_at-requires
-commit_number_at-requires c =
-    let at_place : get_or c.args.places.now c.place_of-x.result 0 ≡ get_or c.args.places.now
-    (place c.args.tag) 0 = rw c.place_of-x.ensures.0 in
-    let within : get_or c.args.places.now c.place_of-x.result 0 ≤ c.args.entries = at_most _ c.args.entries c.args.places.now c.requires.places c.args.tag _ at_place in
-    omega (arith, within)
 
 pub returns-then-commit_tag_at-tag : goal.returns-then-commit_tag_at-tag
 returns-then-commit_tag_at-tag c =

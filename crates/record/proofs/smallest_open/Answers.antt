@@ -4,6 +4,7 @@ use mathlib.Core.Path.{◌≡◌, refl, sym, ◌∙◌}
 use Prim.Native.Nat.{◌*◌, ◌+◌}
 use native.Mathlib.Omega.{arith}
 use borrow.Author.Rules.{rules}
+use borrow.Author.Tests.{lt-ltb, le-ltb}
 use Rattle.spec.specs.Numbers.{smallest}
 use Rattle.spec.specs.Calls.{readers}
 use Rattle.record.specs.Inner.{short_number}
@@ -23,5 +24,14 @@ loop-t-preserved c =
           (elim c.if-some_open.branch [ then-some_open w ↦ rw w.best-is (w.eight_more-best.ensures l.invariant.1 x n s) | else-some_open w ↦ rw w.best-is (l.invariant.1 x n s ∙ sym (c.some_open.ensures w.if-some_open.false x n)) ]),
     )
 
-pub returns : goal.returns
-returns c = let e : c.loop-t.t ≡ 8 = omega arith in rw e at c.loop-t.invariant.1
+pub returns-then-best-lt-NO_SNAPSHOT : goal.returns-then-best-lt-NO_SNAPSHOT
+unfolding short_number
+returns-then-best-lt-NO_SNAPSHOT c =
+    let e : c.loop-t.t ≡ 8 = omega arith in
+    rw (e, lt-ltb c.loop-t.best 4294967296 c.if-best-lt-NO_SNAPSHOT.true) at c.loop-t.invariant.1
+
+pub returns-else-best-lt-NO_SNAPSHOT : goal.returns-else-best-lt-NO_SNAPSHOT
+unfolding short_number
+returns-else-best-lt-NO_SNAPSHOT c =
+    let e : c.loop-t.t ≡ 8 = omega arith in
+    rw (e, le-ltb c.loop-t.best 4294967296 (omega (arith, c.if-best-lt-NO_SNAPSHOT.false))) at c.loop-t.invariant.1

@@ -1,112 +1,69 @@
 -- Before row i the rows that are kept so far stand at the front, and the next one goes directly behind them.
-use Prim.Native.Nat.{◌+◌, ◌*◌, ◌≤◌}
-use mathlib.Core.Path.{◌≡◌, refl, ◌∙◌}
-use lib.ListN.{length}
+use Prim.Native.Nat.{ℕ}
+use mathlib.Core.Path.{◌≡◌, refl, sym, ◌∙◌}
+use mathlib.Core.List.{List}
 use native.Mathlib.Omega.{arith}
-use Rattle.removal.proofs.Moving.{kept_rows, kept_none, kept_one, kept_end, kept_start, next_place, freed_room}
-use Rattle.removal.proofs.Moving.{moving-start, moving_skip, moving-moved, moving-end, moving_room}
-use Rattle.removal.proofs.keep_rows.Goals.{else-flags-i-ne0, then-flags-i-ne0}
+use borrow.Author.Rules.{rules}
+use Rattle.spec.specs.Rows.{Row, row_at, rows_from}
+use Rattle.spec.proofs.Rows.{rows_start}
+use Rattle.removal.specs.Inner.{kept_by}
+use Rattle.removal.proofs.Moving.{kept_no, kept_yes, kept_end, moving_room, moving_row}
+use Rattle.removal.proofs.Moving.{moving-start, moving_skip, moving-keep, moving-end}
+use Rattle.removal.proofs.keep_rows.Goals.{else-stays, then-stays}
 use Rattle.removal.proofs.keep_rows.Goals as goal
 
-pub overflow_mul-to : goal.overflow_mul-to
-overflow_mul-to c =
-    let start_room : let a = c.args in (8 * a.words * a.first ≤ 8 * a.words * a.used) × (8 * a.words ≤ 8 * a.words * a.used) = freed_room (8 * c.args.words) c.args.used c.args.first (omega arith) (omega arith) in
-    omega (arith, start_room)
-
-pub overflow_mul-to-2 : goal.overflow_mul-to-2
-overflow_mul-to-2 c =
-    let start_room : let a = c.args in (8 * a.words * a.first ≤ 8 * a.words * a.used) × (8 * a.words ≤ 8 * a.words * a.used) = freed_room (8 * c.args.words) c.args.used c.args.first (omega arith) (omega arith) in
-    omega (arith, start_room)
-
 pub loop-i-init : goal.loop-i-init
-loop-i-init c =
+loop-i-init g c =
     let a = c.args in
-    let w = 8 * a.words in (
-      moving-start (kept_rows a.flags.now w a.used a.buf.now) w a.used a.buf.now c.requires.used_in_bounds a.first (omega arith)
-          (λ k h. kept_one a.flags.now w a.used k a.buf.now (omega arith) (c.requires.by_index k h)),
-      refl,
-      refl,
-    )
+    let w = g.row.WIDTH in
+    record {
+      fewer = omega arith;
+      size = refl;
+      moved = λ p says stay.
+          moving-start (λ i. kept_by p i (rows_from w a.used i a.buf.now)) w a.used a.buf.now c.requires.used_in_bounds a.first c.requires.first_le_used
+          (λ k h. kept_yes p w a.used k a.buf.now (omega arith) (stay k h));
+    }
 
-pub move_row-requires : goal.move_row-requires
-move_row-requires c =
-    let room : let a = c.args in
+pub overflow_mul-left : goal.overflow_mul-left
+overflow_mul-left g c =
     let loop = c.loop-i in
-    (8 * a.words * loop.left ≤ 8 * a.words * loop.i) × (8 * a.words * loop.i + 8 * a.words ≤ length loop.buf) = let a = c.args in
-    let loop = c.loop-i in
-    moving_room (kept_rows a.flags.now (8 * a.words) a.used a.buf.now) (8 * a.words) a.used a.buf.now loop.buf loop.left
-    loop.i c.requires.used_in_bounds c.loop-i-test.true loop.invariant.0 in
+    let room = moving_room g.row.WIDTH c.args.used _ loop.left loop.i c.requires.used_in_bounds c.loop-i-test.true loop.invariant.fewer in
     omega (arith, room)
 
-pub overflow_mul-to-then-flags-i-ne0 : goal.overflow_mul-to-then-flags-i-ne0
-overflow_mul-to-then-flags-i-ne0 c =
-    let room : let a = c.args in
+pub put-requires : goal.put-requires
+put-requires g c =
     let loop = c.loop-i in
-    (8 * a.words * loop.left ≤ 8 * a.words * loop.i) × (8 * a.words * loop.i + 8 * a.words ≤ length loop.buf) = let a = c.args in
-    let loop = c.loop-i in
-    moving_room (kept_rows a.flags.now (8 * a.words) a.used a.buf.now) (8 * a.words) a.used a.buf.now loop.buf loop.left
-    loop.i c.requires.used_in_bounds c.loop-i-test.true loop.invariant.0 in
-    omega (arith, room)
-
-pub overflow_add-to : goal.overflow_add-to
-overflow_add-to c =
-    let room : let a = c.args in
-    let loop = c.loop-i in
-    (8 * a.words * loop.left ≤ 8 * a.words * loop.i) × (8 * a.words * loop.i + 8 * a.words ≤ length loop.buf) = let a = c.args in
-    let loop = c.loop-i in
-    moving_room (kept_rows a.flags.now (8 * a.words) a.used a.buf.now) (8 * a.words) a.used a.buf.now loop.buf loop.left
-    loop.i c.requires.used_in_bounds c.loop-i-test.true loop.invariant.0 in
-    omega (arith, room)
-
-pub overflow_mul-from : goal.overflow_mul-from
-overflow_mul-from c =
-    let room : let a = c.args in
-    let loop = c.loop-i in
-    (8 * a.words * loop.left ≤ 8 * a.words * loop.i) × (8 * a.words * loop.i + 8 * a.words ≤ length loop.buf) = let a = c.args in
-    let loop = c.loop-i in
-    moving_room (kept_rows a.flags.now (8 * a.words) a.used a.buf.now) (8 * a.words) a.used a.buf.now loop.buf loop.left
-    loop.i c.requires.used_in_bounds c.loop-i-test.true loop.invariant.0 in
-    omega (arith, room)
-
-pub overflow_add-from : goal.overflow_add-from
-overflow_add-from c =
-    let room : let a = c.args in
-    let loop = c.loop-i in
-    (8 * a.words * loop.left ≤ 8 * a.words * loop.i) × (8 * a.words * loop.i + 8 * a.words ≤ length loop.buf) = let a = c.args in
-    let loop = c.loop-i in
-    moving_room (kept_rows a.flags.now (8 * a.words) a.used a.buf.now) (8 * a.words) a.used a.buf.now loop.buf loop.left
-    loop.i c.requires.used_in_bounds c.loop-i-test.true loop.invariant.0 in
+    let room = moving_room g.row.WIDTH c.args.used _ loop.left loop.i c.requires.used_in_bounds c.loop-i-test.true loop.invariant.fewer in
     omega (arith, room)
 
 pub loop-i-preserved : goal.loop-i-preserved
-loop-i-preserved c =
+loop-i-preserved g c =
     let a = c.args in
-    let w = 8 * a.words in
     let loop = c.loop-i in
+    let w = g.row.WIDTH in
     let n = a.used in
     let s = a.buf.now in
-    let K = kept_rows a.flags.now w n s in
-    let next : loop.from + w ≡ w * (loop.i + 1) = rw loop.invariant.2 (next_place w loop.i) in
-    elim c.if-flags-i-ne0.branch [
-      | then-flags-i-ne0 v ↦ (
-        rw v.left-is (moving-moved K w n s c.requires.used_in_bounds loop.buf _ loop.left loop.to loop.i loop.from (omega arith)
-            (kept_one a.flags.now w n loop.i s (omega arith) v.if-flags-i-ne0.true) loop.invariant.0 loop.invariant.1 loop.invariant.2 (v.buf-is ∙ v.move_row.ensures)),
-        rw (v.left-is, v.to-is, loop.invariant.1) (next_place w loop.left),
-        next,
-      )
-      | else-flags-i-ne0 v ↦ (
-        rw (v.buf-is, v.left-is) (moving_skip K w n s loop.buf loop.left loop.i (omega arith)
-            (kept_none a.flags.now w n loop.i s (omega arith) v.if-flags-i-ne0.false) loop.invariant.0),
-        rw (v.left-is, v.to-is) loop.invariant.1,
-        next,
-      )
-    ]
+    record {
+      fewer = search rules;
+      size = search rules;
+      moved = λ p says stay.
+          let K : ℕ → List Row = λ i. kept_by p i (rows_from w n i s) in
+          let m = loop.invariant.moved p says stay in
+          let same : c.bytes_at-row.result ≡ row_at w loop.i s = c.bytes_at-row.ensures ∙ moving_row K w n s loop.buf loop.left loop.i m in
+          let told = says loop.i _ _ (omega arith) (search rules) c.stays.ensures in
+          elim c.if-stays.branch [
+            | then-stays v ↦ rw (v.left-is, v.buf-is, v.put.ensures, c.bytes_at-row.ensures) (moving-keep K w n s c.requires.used_in_bounds loop.buf
+                loop.left loop.i (omega arith) (kept_yes p w n loop.i s (omega arith) (rw same at (sym told ∙ v.if-stays.true))) m)
+            | else-stays v ↦ rw (v.left-is, v.buf-is) (moving_skip K w n s loop.buf loop.left loop.i (omega arith)
+                (kept_no p w n loop.i s (omega arith) (rw same at (sym told ∙ v.if-stays.false))) m)
+          ];
+    }
 
-pub returns : goal.returns
-returns c =
+pub returns-clause-kept : goal.returns-clause-kept
+returns-clause-kept g c = λ p says stay.
     let a = c.args in
-    let w = 8 * a.words in
+    let w = g.row.WIDTH in
     let loop = c.loop-i in
-    moving-end (kept_rows a.flags.now w a.used a.buf.now) w a.used a.buf.now c.requires.used_in_bounds _
-    (kept_start a.flags.now w a.used a.buf.now) loop.buf loop.left loop.i c.loop-i-test.false
-    (kept_end a.flags.now w a.used loop.i a.buf.now c.loop-i-test.false) loop.invariant.0
+    moving-end (λ i. kept_by p i (rows_from w a.used i a.buf.now)) w a.used a.buf.now c.requires.used_in_bounds _
+    (rw (rows_start w a.used a.buf.now)) loop.buf loop.left loop.i c.loop-i-test.false
+    (kept_end p w a.used loop.i a.buf.now c.loop-i-test.false) (loop.invariant.moved p says stay)

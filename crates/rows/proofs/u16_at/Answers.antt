@@ -1,7 +1,7 @@
-use native.Mathlib.Omega.{arith}
-use Rattle.spec.proofs.Bytes.{number_two}
+use mathlib.Core.Path.{◌∙◌}
+use borrow.Author.Rules.{rules}
+use Rattle.rows.proofs.Stored.{two_read}
 use Rattle.rows.proofs.u16_at.Goals as goal
 
 pub returns : goal.returns
-returns c =
-    omega (arith, number_two c.args.s.now c.args.at c.requires)
+returns c = rw c.bytes_at.ensures at (c.from_le_bytes.ensures ∙ two_read c.bytes_at.result (search rules))

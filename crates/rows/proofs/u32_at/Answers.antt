@@ -1,7 +1,7 @@
-use native.Mathlib.Omega.{arith}
-use Rattle.spec.proofs.Bytes.{number_four}
+use mathlib.Core.Path.{◌∙◌}
+use borrow.Author.Rules.{rules}
+use Rattle.rows.proofs.Stored.{four_read}
 use Rattle.rows.proofs.u32_at.Goals as goal
 
 pub returns : goal.returns
-returns c =
-    omega (arith, number_four c.args.s.now c.args.at c.requires)
+returns c = rw c.bytes_at.ensures at (c.from_le_bytes.ensures ∙ four_read c.bytes_at.result (search rules))

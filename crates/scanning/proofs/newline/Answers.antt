@@ -1,20 +1,25 @@
--- The search goes on from the place behind the eights, and from each byte that is no newline. Assumes nothing.
-use borrow.Author.Rules.{rules}
+-- The first place that the library finds, or the end. Assumes nothing.
 use mathlib.Core.Path.{◌∙◌, sym}
 use native.Mathlib.Omega.{arith}
-use Rattle.scanning.proofs.Newlines.{newline_end, newline_found, newline_more}
+use Rattle.scanning.proofs.Newlines.{newline_found, within_rest}
 use Rattle.scanning.proofs.newline.Goals as goal
 
-pub loop-i-init : goal.loop-i-init
-loop-i-init c = (omega arith, omega arith, c.pass_eights-i.ensures.no_newline)
+pub overflow_add-result : goal.overflow_add-result
+overflow_add-result c =
+    let a = c.args in
+    omega (
+      arith,
+      within_rest a.s.now a.from c.requires,
+      newline_found a.s.now a.from _ c.requires (sym c.in-Some.ensures.steps ∙ c.memchr_iter.ensures.value),
+    )
 
-pub returns-then-s-i-eq10 : goal.returns-then-s-i-eq10
-returns-then-s-i-eq10 c =
-    (record { value = sym (c.loop-i.invariant.2 ∙ newline_found _ _ c.loop-i-test.true c.if-s-i-eq10.true); lower_bound = search rules })
+pub returns-in-Some : goal.returns-in-Some
+returns-in-Some c =
+    let a = c.args in
+    let e = newline_found a.s.now a.from _ c.requires (sym c.in-Some.ensures.steps ∙ c.memchr_iter.ensures.value) in
+    record { value = sym e; lower_bound = rw e at (within_rest a.s.now a.from c.requires) }
 
-pub loop-i-preserved : goal.loop-i-preserved
-loop-i-preserved c =
-    (omega arith, omega arith, c.loop-i.invariant.2 ∙ newline_more _ _ c.loop-i-test.true c.if-s-i-eq10.false)
-
-pub returns : goal.returns
-returns c = (record { value = sym (c.loop-i.invariant.2 ∙ newline_end _ _ c.loop-i-test.false); lower_bound = search rules })
+pub returns-in-None-clause-value : goal.returns-in-None-clause-value
+returns-in-None-clause-value c =
+    let a = c.args in
+    omega (arith, newline_found a.s.now a.from _ c.requires (sym c.in-None.ensures.steps.0 ∙ c.memchr_iter.ensures.value))

@@ -1,5 +1,4 @@
 -- `search::any_above`: what is looked for in all committed rows was found or is looked for in the rest.
-use Prim.Native.Nat.{◌-◌}
 use mathlib.Core.Path.{◌≡◌}
 use mathlib.Core.Bool.{◌||◌}
 use lib.Dec.{ltb}
@@ -9,7 +8,5 @@ use Rattle.search.proofs.any_above.Given as goal
 
 abbrev pub invariant-loop-i : goal.invariant-loop-i
 invariant-loop-i l =
-    any (λ c. ltb l.s (commit_number c)) (rows_in 8 l.entries l.commits) ≡ (l.found || any (λ c. ltb l.s (commit_number c)) (rows_from 8 l.entries l.i l.commits))
-
-abbrev pub decreases-loop-i : goal.decreases-loop-i
-decreases-loop-i l = l.entries - l.i
+    any (λ c. ltb l.s (commit_number c)) (rows_in 8 l.entries l.commits)
+    ≡ (l.found || any (λ c. ltb l.s (commit_number c)) (rows_from 8 l.entries l.i l.commits))

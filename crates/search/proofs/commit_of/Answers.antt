@@ -1,7 +1,7 @@
 -- `search::commit_of`: the number of the row that `next_commit` found.
+use Rattle.std.specs.Prelude.{Some}
 use mathlib.Core.Path.{sym, ap, ◌∙◌}
 use native.Mathlib.Omega.{arith}
-use Rattle.spec.specs.declared.Number.TheVariants.{Some}
 use Rattle.search.proofs.Folds.{commit_none, commit_first}
 use Rattle.search.proofs.commit_of.Goals as goal
 

@@ -1,10 +1,10 @@
 -- `search::conflict`: the smallest of all rows is the lesser of the smallest so far and that of the rest; rows of cells that the transaction cannot
 -- have written are passed over; nothing where no commit is above the snapshot.
+use Rattle.std.specs.Prelude.{None}
 use Prim.Native.Nat.{◌<◌}
 use mathlib.Core.Path.{sym, ◌∙◌}
 use native.Mathlib.Omega.{arith}
 use Rattle.spec.specs.Rows.{row_at, rows_in, cell_of}
-use Rattle.spec.specs.declared.Number.TheVariants.{None}
 use Rattle.search.proofs.Passes.{skip}
 use Rattle.search.proofs.Marks.{row_unmarked}
 use Rattle.search.proofs.Clashes.{conflict-none, clash_rest, clash_start, clash-hit, clash-miss, clash-end}
@@ -22,12 +22,6 @@ loop-i-init c =
     ∙ skip (clash_rest a.tag a.snapshot a.used a.rows.now cs None) c.next_marked-i.ensures
     (λ k l m. clash-miss a.tag a.snapshot a.used a.rows.now cs None k l
     (row_unmarked c.mark_cells.ensures (cell_of (row_at 24 k a.rows.now)) m))
-
-pub has_written-requires : goal.has_written-requires
-has_written-requires c = (record { used_in_bounds = omega arith; written_marks = c.mark_cells.ensures })
-
-pub loop-i-smaller : goal.loop-i-smaller
-loop-i-smaller c = omega (arith, c.next_marked-i-in-loop-i.ensures.start)
 
 pub loop-i-preserved : goal.loop-i-preserved
 loop-i-preserved c =

@@ -9,7 +9,8 @@ use Rattle.search.proofs.conflict.Given as goal
 
 abbrev pub invariant-loop-i : goal.invariant-loop-i
 invariant-loop-i l =
-    conflict l.tag l.snapshot (rows_in 24 l.used l.rows) (rows_in 8 l.entries l.commits) ≡ clash_rest l.tag l.snapshot l.used l.rows (rows_in 8 l.entries l.commits) l.best l.i
+    conflict l.tag l.snapshot (rows_in 24 l.used l.rows) (rows_in 8 l.entries l.commits)
+    ≡ clash_rest l.tag l.snapshot l.used l.rows (rows_in 8 l.entries l.commits) l.best l.i
 
 abbrev pub decreases-loop-i : goal.decreases-loop-i
 decreases-loop-i l = l.used - l.i

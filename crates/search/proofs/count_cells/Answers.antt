@@ -1,6 +1,7 @@
 -- `search::count_cells`: the cells counted, and marked, are those of the rows that it has come by, from the last to the first.
 use Prim.Native.Nat.{ℕ, ◌<◌, ◌-◌, ◌+◌}
 use mathlib.Core.Path.{◌≡◌, refl, sym, ap, ◌∙◌}
+use mathlib.Core.Bool.{false}
 use native.Mathlib.Omega.{arith}
 use lib.ListN.{replicate}
 use Rattle.spec.specs.Rows.{rows_from}
@@ -21,23 +22,8 @@ loop-i-init c =
           (λ k l m e. e ∙ sym (cells_miss a.tag 24 a.used k a.rows.now l m))
           (sym (cells_end a.tag 24 a.used a.used a.rows.now (omega arith))),
       marks_back a.tag a.used a.rows.now (omega arith) pass
-          (marks_none a.tag a.used a.rows.now (replicate 1024 0) refl),
+          (marks_none a.tag a.used a.rows.now (replicate 1024 false) refl),
     )
-
-pub count_cell-n-requires : goal.count_cell-n-requires
-count_cell-n-requires c =
-    let loop = c.loop-i in
-    let h : 0 < loop.i = omega arith in
-    let e : loop.i - 1 + 1 ≡ loop.i = omega arith in
-    (record { used_in_bounds = omega arith; k_lt_used = omega arith; rows_value = loop.invariant.1 h; written_marks = rw e loop.invariant.3 })
-
-pub overflow_add-n : goal.overflow_add-n
-overflow_add-n c =
-    let a = c.args in
-    omega (arith, c.count_cell-n.ensures.value, last_one a.tag 24 a.used (c.loop-i.i - 1) a.rows.now)
-
-pub loop-i-smaller : goal.loop-i-smaller
-loop-i-smaller c = omega (arith, c.last_tagged-i-in-loop-i.ensures.end)
 
 pub loop-i-preserved : goal.loop-i-preserved
 loop-i-preserved c =

@@ -1,63 +1,7 @@
--- `search::last_tagged`: no row from row i on is a hit, thirty-two a turn from the end, then eight, then one by one.
-use Prim.Native.Nat.{◌-◌}
-use mathlib.Core.Path.{refl, sym, ◌∙◌}
-use native.Mathlib.Omega.{arith}
-use Rattle.search.proofs.Passes.{past_none, past-miss, past-joined, last_none, last_found}
+-- `search::last_tagged`: the test holds of the rows that are hits, and of no others.
+use Rattle.std.proofs.Common.{rules}
+use Rattle.search.proofs.Passes.{last_by}
 use Rattle.search.proofs.last_tagged.Goals as goal
 
-pub loop-i-init : goal.loop-i-init
-loop-i-init c = (omega arith, past_none refl)
-
-pub loop-j-init : goal.loop-j-init
-loop-j-init c = (omega arith, past-joined (past_none (omega arith)) c.loop-i.invariant.1)
-
-pub returns-then-tag_at-tag : goal.returns-then-tag_at-tag
-returns-then-tag_at-tag c = last_found c.loop-j.invariant.1 (omega arith) (sym c.tag_at.ensures ∙ c.if-tag_at-tag.true)
-
-pub loop-j-preserved : goal.loop-j-preserved
-loop-j-preserved c =
-    let at = c.loop-i.i - 1 - c.loop-j.j in (
-      omega arith,
-      past-joined (past-miss (past_none {n = at} (omega arith)) (omega arith) (λ e. c.if-tag_at-tag.false (c.tag_at.ensures ∙ e)))
-          c.loop-j.invariant.1,
-    )
-
-pub loop-i-preserved : goal.loop-i-preserved
-loop-i-preserved c = (omega arith, past-joined (past_none (omega arith)) c.loop-j.invariant.1)
-
-pub loop-i-2-init : goal.loop-i-2-init
-loop-i-2-init c = c.loop-i.invariant
-
-pub loop-j-2-init : goal.loop-j-2-init
-loop-j-2-init c = (omega arith, past-joined (past_none (omega arith)) c.loop-i-2.invariant.1)
-
-pub returns-then-tag_at-tag-2 : goal.returns-then-tag_at-tag-2
-returns-then-tag_at-tag-2 c = last_found c.loop-j-2.invariant.1 (omega arith) (sym c.tag_at-in-loop-j-2.ensures ∙ c.if-tag_at-tag-2.true)
-
-pub loop-j-2-preserved : goal.loop-j-2-preserved
-loop-j-2-preserved c =
-    let at = c.loop-i-2.i - 1 - c.loop-j-2.j in (
-      omega arith,
-      past-joined (past-miss (past_none {n = at} (omega arith)) (omega arith) (λ e. c.if-tag_at-tag-2.false (c.tag_at-in-loop-j-2.ensures ∙ e)))
-          c.loop-j-2.invariant.1,
-    )
-
-pub loop-i-2-preserved : goal.loop-i-2-preserved
-loop-i-2-preserved c = (omega arith, past-joined (past_none (omega arith)) c.loop-j-2.invariant.1)
-
-pub loop-i-3-init : goal.loop-i-3-init
-loop-i-3-init c = c.loop-i-2.invariant
-
-pub returns-then-tag_at-tag-3 : goal.returns-then-tag_at-tag-3
-returns-then-tag_at-tag-3 c = last_found c.loop-i-3.invariant.1 (omega arith) (sym c.tag_at-in-loop-i-3.ensures ∙ c.if-tag_at-tag-3.true)
-
-pub loop-i-3-preserved : goal.loop-i-3-preserved
-loop-i-3-preserved c =
-    let at = c.loop-i-3.i - 1 in (
-      omega arith,
-      past-joined (past-miss (past_none {n = at} (omega arith)) (omega arith) (λ e. c.if-tag_at-tag-3.false (c.tag_at-in-loop-i-3.ensures ∙ e)))
-          c.loop-i-3.invariant.1,
-    )
-
 pub returns : goal.returns
-returns c = last_none (λ k b. c.loop-i-3.invariant.1.misses k (omega arith) b)
+returns c = last_by c.last_hit.ensures (λ k l a. search rules) (λ k l a h. search rules)

@@ -18,9 +18,6 @@ loop-i-init c =
           (marks_none a.tag a.used a.rows.now a.marks.now c.requires.marks_value),
     )
 
-pub loop-i-smaller : goal.loop-i-smaller
-loop-i-smaller c = omega (arith, c.last_tagged-i-in-loop-i.ensures.end)
-
 pub loop-i-preserved : goal.loop-i-preserved
 loop-i-preserved c =
     let a = c.args in

@@ -25,9 +25,6 @@ returns-then-cell_at-cell c =
     sym (loop.invariant.3 ∙ own-found a.tag a.cell a.used a.rows.now loop.n loop.i h (loop.invariant.1 h)
     (sym c.cell_at.ensures ∙ c.if-cell_at-cell.true))
 
-pub loop-i-smaller : goal.loop-i-smaller
-loop-i-smaller c = omega (arith, c.next_tag-i-in-loop-i.ensures.start)
-
 pub loop-i-preserved : goal.loop-i-preserved
 loop-i-preserved c =
     let a = c.args in

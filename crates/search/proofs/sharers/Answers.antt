@@ -23,12 +23,6 @@ loop-i-init c =
           (share_start a.tag a.queued a.used a.rows.now a.numbers.now),
     )
 
-pub has_written-requires : goal.has_written-requires
-has_written-requires c = (record { used_in_bounds = omega arith; written_marks = c.mark_cells.ensures })
-
-pub loop-i-smaller : goal.loop-i-smaller
-loop-i-smaller c = omega (arith, c.next_marked-i-in-loop-i.ensures.start)
-
 pub loop-i-preserved : goal.loop-i-preserved
 loop-i-preserved c =
     let a = c.args in

@@ -1,52 +1,31 @@
--- `search::wrote_from`: whether the rows from `from` on have a write of the cell is whether the rest has one; other transactions' rows are passed over.
-use Prim.Native.Nat.{◌<◌}
-use mathlib.Core.Path.{sym, ◌∙◌}
-use native.Mathlib.Omega.{arith}
-use borrow.Author.Tests.{eq-eqb, ne_eqb}
-use Rattle.spec.specs.Rows.{rows_from}
-use Rattle.spec.specs.Share.{wrote}
-use Rattle.search.proofs.Passes.{skip}
-use Rattle.search.proofs.Folds.{wrote_hit, wrote_miss, wrote_end}
+-- `search::wrote_from`: the pass finds a row of the transaction for the cell just if there is one.
+use Prim.Native.Nat.{ℕ}
+use mathlib.Core.Path.{◌≡◌, refl, sym, ◌∙◌}
+use mathlib.Core.Bool.{Bool, true, false}
+use mathlib.Core.List.{List}
+use lib.Dec.{ltb}
+use borrow.Author.Tests.{ltb-true, ltb-false}
+use Rattle.std.proofs.Common.{rules}
+use Rattle.std.proofs.lemmas.Bool.{false_from_ne_true}
+use Rattle.spec.specs.Rows.{Row, row_at, rows_from}
+use Rattle.spec.specs.Look.{is_own}
+use Rattle.spec.specs.Share.{any, wrote}
+use Rattle.search.specs.Inner.{Next}
+use Rattle.search.proofs.Passes.{next_by, skip}
+use Rattle.search.proofs.Folds.{any_step, any_end}
 use Rattle.search.proofs.wrote_from.Goals as goal
 
-pub loop-i-init : goal.loop-i-init
-loop-i-init c =
-    let a = c.args in
-    let pass = c.next_tag-i.ensures in (
-      pass.end,
-      pass.hit,
-      skip (λ k. wrote (rows_from 24 a.used k a.rows.now) a.tag a.cell) pass
-          (λ k. wrote_miss a.tag a.cell 24 a.used k a.rows.now),
-    )
-
-pub returns-then-cell_at-cell : goal.returns-then-cell_at-cell
-returns-then-cell_at-cell c =
-    let a = c.args in
-    let loop = c.loop-i in
-    let h : loop.i < a.used = omega arith in
-    sym (loop.invariant.2 ∙ wrote_hit a.tag a.cell 24 a.used loop.i a.rows.now h (loop.invariant.1 h) ∙ rw
-    (eq-eqb _ _ (sym c.cell_at.ensures ∙ c.if-cell_at-cell.true)))
-
-pub loop-i-smaller : goal.loop-i-smaller
-loop-i-smaller c = omega (arith, c.next_tag-i-in-loop-i.ensures.start)
-
-pub loop-i-preserved : goal.loop-i-preserved
-loop-i-preserved c =
-    let a = c.args in
-    let loop = c.loop-i in
-    let pass = c.next_tag-i-in-loop-i.ensures in
-    let h : loop.i < a.used = omega arith in (
-      pass.end,
-      pass.hit,
-      loop.invariant.2
-          ∙ wrote_hit a.tag a.cell 24 a.used loop.i a.rows.now h (loop.invariant.1 h)
-          ∙ rw (ne_eqb _ _ (λ e. c.if-cell_at-cell.false (c.cell_at.ensures ∙ e)))
-          (skip (λ k. wrote (rows_from 24 a.used k a.rows.now) a.tag a.cell) pass
-          (λ k. wrote_miss a.tag a.cell 24 a.used k a.rows.now)),
-    )
+found : (p : Row → Bool) (n from r : ℕ) (s : List ℕ) → Next (λ k. p (row_at 24 k s) ≡ true) from n r → ltb r n ≡ any p (rows_from 24 n from s)
+found p n from r s pass =
+    go (ltb r n) refl ∙ sym (skip (λ k. any p (rows_from 24 n k s)) pass (λ k l m. any_step p 24 n k s l ∙ rw (false_from_ne_true _ m)))
+  where
+    go : (t : Bool) → ltb r n ≡ t → t ≡ any p (rows_from 24 n r s)
+    go true e = sym (any_step p 24 n r s (ltb-true r n e) ∙ rw (pass.hit (ltb-true r n e)))
+    go false e = sym (any_end p 24 n r s (ltb-false r n e))
 
 pub returns : goal.returns
+unfolding is_own wrote
 returns c =
     let a = c.args in
-    let loop = c.loop-i in
-    sym (loop.invariant.2 ∙ wrote_end a.tag a.cell 24 a.used loop.i a.rows.now c.loop-i-test.false)
+    found (is_own a.tag a.cell) a.used a.from c.first_hit.result a.rows.now
+    (next_by c.first_hit.ensures (λ k l h. search rules) (λ k l h e. search rules))

@@ -1,6 +1,6 @@
 -- The data rows of committed row j are walked over their chain; rows of other transactions are passed over.
 use Prim.Native.Nat.{ℕ, ◌+◌, ◌≤◌, ◌<◌}
-use mathlib.Core.Path.{◌≡◌, refl, sym}
+use mathlib.Core.Path.{◌≡◌, sym}
 use mathlib.Core.Bool.{Bool, true, false}
 use mathlib.Core.List.{List}
 use lib.ListN.{length, get_or, set}
@@ -10,7 +10,7 @@ use native.Mathlib.Omega.{arith}
 use Rattle.spec.specs.Rows.{row_at, rows_in, tag_of, cell_of, commit_tag, commit_number}
 use Rattle.orderly.specs.Inner.{row_entry, entry_places}
 use Rattle.spec.specs.Orderly.{orderly_commits}
-use Rattle.orderly.proofs.Chains.{chain-start, chain_more, chain-rises, chain_carry, head_carry}
+use Rattle.orderly.proofs.Chains.{chain-start, chain_more, chain_carry, head_carry}
 use Rattle.orderly.proofs.Order.{differ, displain, plain_large}
 use Rattle.orderly.proofs.Entries.{entry_tag, entry_of_tag}
 use Rattle.serving.proofs.Stamps.{stamped_start, stamped-other, stamped-more, stamped-twice}
@@ -33,10 +33,6 @@ module _ (low n m j : ℕ) (s c seen₀ marks₀ flags₀ uses₀ : List ℕ) (o
         stamped-other (commit_tag (row_at 8 j c)) (j + 1) n s seen₀ seen k w.1 other,
         w.2,
       )
-
-pub overflow_cast-i : goal.overflow_cast-i
-overflow_cast-i c =
-    omega (arith, c.requires.used_bound, (c.requires.rows_linked.head c.args.j (omega (arith, c.requires))).end)
 
 pub loop-i-init : goal.loop-i-init
 loop-i-init c =
@@ -90,26 +86,6 @@ returns-then-mark-seen-clause-rows_value c =
     λ e. stamped-twice (commit_tag (row_at 8 a.j a.commits.now)) (a.j + 1) a.used a.rows.now a.seen.now loop.seen loop.i
     loop.invariant.1.1
     own cell.result cell.ensures c.loop-i-test.true (omega (arith, c.if-at-ge1024.false)) (sym c.if-mark-seen.true)
-
-pub overflow_cast-i-in-loop-i : goal.overflow_cast-i-in-loop-i
-overflow_cast-i-in-loop-i c =
-    let a = c.args in
-    let loop = c.loop-i in
-    omega (
-      arith,
-      chain-rises (row_entry a.entries a.commits.now a.rows.now) a.used a.follows.now a.j loop.i c.loop-i-test.true
-          loop.invariant.0,
-    )
-
-pub loop-i-smaller : goal.loop-i-smaller
-loop-i-smaller c =
-    let a = c.args in
-    let loop = c.loop-i in
-    omega (
-      arith,
-      chain-rises (row_entry a.entries a.commits.now a.rows.now) a.used a.follows.now a.j loop.i c.loop-i-test.true
-          loop.invariant.0,
-    )
 
 pub loop-i-preserved : goal.loop-i-preserved
 loop-i-preserved c =
@@ -180,27 +156,40 @@ loop-i-preserved c =
           loop.i h loop.invariant.0 met,
     )
 
-pub returns : goal.returns
-returns c =
+pub returns-clause-marks_2 : goal.returns-clause-marks_2
+returns-clause-marks_2 c = λ e.
     let a = c.args in
     let loop = c.loop-i in
     let pre = c.requires in
-    let marked =
     marks-done a.low a.used a.entries a.rows.now a.commits.now a.j pre.j_lt_entries a.marks.now pre.marks pre.commits_value
     a.seen.now a.flags.now a.uses.now pre.so_far
-    loop.seen loop.marks loop.flags loop.uses loop.i c.loop-i-test.false loop.invariant.1.0 loop.invariant.1.1 in
-    let plain =
+    loop.seen loop.marks loop.flags loop.uses loop.i c.loop-i-test.false loop.invariant.1.0 loop.invariant.1.1
+
+pub returns-clause-so_far_2 : goal.returns-clause-so_far_2
+returns-clause-so_far_2 c = λ e.
+    let a = c.args in
+    let loop = c.loop-i in
+    let pre = c.requires in
     plain_done a.low a.used a.entries a.rows.now a.commits.now a.j pre.j_lt_entries a.marks.now pre.marks pre.commits_value
     a.seen.now a.flags.now a.uses.now pre.so_far
-    loop.seen loop.marks loop.flags loop.uses loop.i c.loop-i-test.false loop.invariant.1.0 loop.invariant.1.1 in
-    let judged =
+    loop.seen loop.marks loop.flags loop.uses loop.i c.loop-i-test.false loop.invariant.1.0 loop.invariant.1.1
+
+pub returns-clause-judged_2 : goal.returns-clause-judged_2
+returns-clause-judged_2 c = λ e.
+    let a = c.args in
+    let loop = c.loop-i in
+    let pre = c.requires in
     judged-done a.low a.used a.entries a.rows.now a.commits.now a.j pre.j_lt_entries a.marks.now pre.marks pre.commits_value
     a.seen.now a.flags.now a.uses.now pre.so_far
     loop.seen loop.marks loop.flags loop.uses loop.i c.loop-i-test.false loop.invariant.1.0 loop.invariant.1.1
-    pre.judged in
-    let used =
+    pre.judged
+
+pub returns-clause-used_2 : goal.returns-clause-used_2
+returns-clause-used_2 c = λ e.
+    let a = c.args in
+    let loop = c.loop-i in
+    let pre = c.requires in
     used-done a.low a.used a.entries a.rows.now a.commits.now a.j pre.j_lt_entries a.marks.now pre.marks pre.commits_value
     a.seen.now a.flags.now a.uses.now pre.so_far
     loop.seen loop.marks loop.flags loop.uses loop.i c.loop-i-test.false loop.invariant.1.0 loop.invariant.1.1
-    pre.used in
-    (record { marks_2 = λ e. marked; so_far_2 = λ e. plain; judged_2 = λ e. judged; used_2 = λ e. used; rows_value = λ e. absurd (differ refl e) })
+    pre.used

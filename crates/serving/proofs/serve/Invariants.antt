@@ -18,7 +18,8 @@ Walked low n m j s c seen₀ marks₀ flags₀ uses₀ seen marks flags uses i =
 
 abbrev pub invariant-loop-i : goal.invariant-loop-i
 invariant-loop-i l =
-    Chain (row_entry l.entries l.commits l.rows) l.used l.follows l.j l.i × Walked l.low l.used l.entries l.j l.rows l.commits l.initial.seen l.initial.marks l.initial.flags l.initial.uses l.seen l.marks l.flags l.uses l.i
+    Chain (row_entry l.entries l.commits l.rows) l.used l.follows l.j l.i
+    × Walked l.low l.used l.entries l.j l.rows l.commits l.initial.seen l.initial.marks l.initial.flags l.initial.uses l.seen l.marks l.flags l.uses l.i
 
 abbrev pub decreases-loop-i : goal.decreases-loop-i
 decreases-loop-i l = l.used - l.i

@@ -5,10 +5,9 @@ use mathlib.Core.Path.{◌≡◌}
 use mathlib.Core.Logic.{◌⊎◌}
 use mathlib.Core.List.{List, ◌++◌}
 use lib.ListN.{length, take, drop}
-use Rattle.spec.specs.Image.{clients_of}
 use Rattle.spec.specs.Session.{answers, memory_after}
 use Rattle.spec.specs.Bytes.{Memory, memory_of}
-use Rattle.record.specs.Inner.{whole}
+use Rattle.record.specs.Inner.{SameArrays, store_at}
 use Rattle.session.specs.Inner.{lines_of, rest_of}
 use Rattle.session.proofs.feed.Given as goal
 
@@ -23,8 +22,9 @@ SoFar buf start w₀ out₀ at w out from used =
 
 abbrev pub invariant-loop-from : goal.invariant-loop-from
 invariant-loop-from l =
-    SoFar l.buf l.start (memory_of (whole l.initial.next (clients_of l.initial.stage l.initial.number l.initial.snapshot l.initial.request l.initial.commit l.initial.request_waits l.initial.commit_waits)) l.initial.rows l.initial.commits l.initial.versions) l.initial.out l.at
-    (memory_of (whole l.next (clients_of l.stage l.number l.snapshot l.request l.commit l.request_waits l.commit_waits)) l.rows l.commits l.versions) l.out l.from l.used
+    SameArrays l.initial.r l.r
+    × SoFar l.buf l.start (memory_of (store_at l.initial.r) l.initial.rows l.initial.commits l.initial.versions) l.initial.out l.at
+    (memory_of (store_at l.r) l.rows l.commits l.versions) l.out l.from l.used
 
 abbrev pub decreases-loop-from : goal.decreases-loop-from
 decreases-loop-from l = length l.buf - l.from

@@ -6,45 +6,35 @@ use lib.ListN.{length}
 use native.Mathlib.Omega.{arith}
 use borrow.Author.Rules.{rules}
 use Rattle.spec.specs.Bytes.{memory_of}
-use Rattle.step.proofs.Draining.{failed, stuck, ended}
+use Rattle.step.proofs.Draining.{stuck, ended}
 use Rattle.step.proofs.drain.Goals as goal
 
 pub loop-from-init : goal.loop-from-init
 loop-from-init g c = (omega arith, refl, refl, refl, refl, refl)
 
-pub returns-then-not-flush : goal.returns-then-not-flush
-returns-then-not-flush g c = (record { from_in_bounds = search rules; emptied = λ e. failed e })
-
-pub returns-then-to-from : goal.returns-then-to-from
-returns-then-to-from g c =
+pub returns-then-c-from-clause-emptied : goal.returns-then-c-from-clause-emptied
+returns-then-c-from-clause-emptied g c =
     let l = c.loop-from in
     let a = c.args in
-    let w₀ = memory_of a.store a.rows.now a.commits.now a.versions.now in
-    let w = memory_of l.s l.rows l.commits l.versions in
-    let out' = c.chunk-c.new.out in
-    let w' = memory_of c.chunk-c.result.store c.chunk-c.new.rows c.chunk-c.new.commits c.chunk-c.new.versions in
+    let w₀ = memory_of a.store.now a.rows.now a.commits.now a.versions.now in
+    let w = memory_of l.store l.rows l.commits l.versions in
+    let k = c.chunk-c.new in
+    let w' = memory_of k.store k.rows k.commits k.versions in
     let same : length l.out ≡ length a.out.now = l.invariant.1 in
-    let room : 90 ≤ length out' = omega (
-      arith,
-      same,
-      c.chunk-c.auto.out,
-      c.requires,
-    ) in (record {
-      from_in_bounds = search rules;
-      emptied = λ e. stuck a.buf.now w₀ w w' l.from c.chunk-c.result.from l.out out'
-          c.chunk-c.result.used l.invariant.4 l.invariant.5 c.chunk-c.ensures c.if-to-from.true room;
-    })
+    let room : 90 ≤ length k.out = omega (arith, same, c.chunk-c.auto.out, c.requires) in
+    stuck a.buf.now w₀ w w' l.from c.chunk-c.result.from l.out k.out c.chunk-c.result.used l.invariant.4 l.invariant.5 c.chunk-c.ensures
+    c.if-c-from.true room
 
 pub loop-from-preserved : goal.loop-from-preserved
 loop-from-preserved g c =
     let l = c.loop-from in
     let k = c.chunk-c in
-    (c.chunk-c.ensures.within, search rules, search rules, search rules, c.chunk-c.ensures.state ∙ l.invariant.4, c.chunk-c.ensures.rest ∙ l.invariant.5)
+    (k.ensures.within, search rules, search rules, search rules, k.ensures.state ∙ l.invariant.4, k.ensures.rest ∙ l.invariant.5)
 
-pub returns : goal.returns
-returns g c =
+pub returns-clause-emptied : goal.returns-clause-emptied
+returns-clause-emptied g c =
     let l = c.loop-from in
     let a = c.args in
-    let w₀ = memory_of a.store a.rows.now a.commits.now a.versions.now in
-    let w = memory_of l.s l.rows l.commits l.versions in
-    (record { from_in_bounds = l.invariant.0; emptied = λ e. ended a.buf.now w₀ w l.from l.invariant.4 l.invariant.5 l.invariant.0 c.loop-from-test.false })
+    let w₀ = memory_of a.store.now a.rows.now a.commits.now a.versions.now in
+    let w = memory_of l.store l.rows l.commits l.versions in
+    ended a.buf.now w₀ w l.from l.invariant.4 l.invariant.5 l.invariant.0 c.loop-from-test.false

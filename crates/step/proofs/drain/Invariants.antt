@@ -14,8 +14,8 @@ invariant-loop-from g l =
     × (length l.out ≡ length l.initial.out)
     × (length l.rows ≡ length l.initial.rows)
     × (length l.commits ≡ length l.initial.commits)
-    × (memory_after (memory_of l.s l.rows l.commits l.versions) (lines_of (drop l.from l.buf))
-    ≡ memory_after (memory_of l.initial.s l.initial.rows l.initial.commits l.initial.versions) (lines_of l.buf))
+    × (memory_after (memory_of l.store l.rows l.commits l.versions) (lines_of (drop l.from l.buf))
+    ≡ memory_after (memory_of l.initial.store l.initial.rows l.initial.commits l.initial.versions) (lines_of l.buf))
     × (rest_of (drop l.from l.buf) ≡ rest_of l.buf)
 
 abbrev pub decreases-loop-from : goal.decreases-loop-from

@@ -17,9 +17,6 @@ returns-then-line-at c =
     let a = c.args in
     sym (hex_short 32 (drop a.at a.line.now) (simp length-drop (omega arith)))
 
-pub loop-i-init : goal.loop-i-init
-loop-i-init c = (omega arith, hex_start c.args.line.now c.args.at)
-
 pub loop-i-preserved : goal.loop-i-preserved
 loop-i-preserved c =
     let l = c.loop-i in
@@ -27,8 +24,14 @@ loop-i-preserved c =
     let d = c.hex_of-d in
     let h : a.at + l.i < length a.line.now = omega arith in
     let m : (l.most ≤ c.if-most-d.most) × (d.result ≤ c.if-most-d.most) × (l.most < 16 → d.result < 16 → c.if-most-d.most < 16) =
-    elim c.if-most-d.branch [ then-most-d w ↦ (omega arith, omega arith, λ p q. omega arith) | else-most-d w ↦ (omega arith, omega arith, λ p q. omega arith) ] in
-    (omega arith, l.invariant.1 ∙ hex_next _ _ _ _ _ _ d.ensures.0 h c.loop-i-test.true m)
+    elim c.if-most-d.branch [
+      | then-most-d w ↦ (omega arith, omega arith, λ p q. omega arith)
+      | else-most-d w ↦ (omega arith, omega arith, λ p q. omega arith)
+    ] in
+    l.invariant ∙ hex_next _ _ _ _ _ _ d.ensures.0 h c.loop-i-test.true m
+
+pub loop-i-init : goal.loop-i-init
+loop-i-init c = hex_start c.args.line.now c.args.at
 
 pub returns : goal.returns
-returns c = sym (c.loop-i.invariant.1 ∙ hex_end _ _ _ c.loop-i.i (omega arith))
+returns c = sym (c.loop-i.invariant ∙ hex_end _ _ _ c.loop-i.i (omega arith))

@@ -1,5 +1,5 @@
 -- The bytes made so far with those of the digits to come are the whole value. Assumes nothing.
-use Prim.Native.Nat.{◌+◌, ◌*◌, ◌-◌, ◌≤◌}
+use Prim.Native.Nat.{◌+◌, ◌*◌, ◌-◌}
 use mathlib.Core.Path.{◌≡◌}
 use mathlib.Core.List.{◌++◌}
 use lib.ListN.{length, take, drop}
@@ -8,7 +8,4 @@ use Rattle.text.proofs.value_in.Given as goal
 
 abbrev pub invariant-loop-i : goal.invariant-loop-i
 invariant-loop-i l =
-    (l.i ≤ 16) × (length l.v ≡ 16) × (take l.i l.v ++ hex_bytes (16 - l.i) (drop (l.at + 2 * l.i) l.line) ≡ hex_bytes 16 (drop l.at l.line))
-
-abbrev pub decreases-loop-i : goal.decreases-loop-i
-decreases-loop-i l = 16 - l.i
+    (length l.v ≡ 16) × (take l.i l.v ++ hex_bytes (16 - l.i) (drop (l.at + 2 * l.i) l.line) ≡ hex_bytes 16 (drop l.at l.line))

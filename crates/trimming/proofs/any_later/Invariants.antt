@@ -1,5 +1,5 @@
 -- Any row later among all is any among the rows from i on.
-use Prim.Native.Nat.{◌-◌}
+
 use mathlib.Core.Path.{◌≡◌}
 use mathlib.Core.List.{List}
 use Rattle.spec.specs.Rows.{Row, rows_in, rows_from}
@@ -12,6 +12,3 @@ abbrev pub invariant-loop-i : goal.invariant-loop-i
 invariant-loop-i l =
     (cs : List Row) → Numbers l.used cs l.rows l.numbers
     → any (later cs l.low l.cell l.n) (rows_in 24 l.used l.rows) ≡ any (later cs l.low l.cell l.n) (rows_from 24 l.used l.i l.rows)
-
-abbrev pub decreases-loop-i : goal.decreases-loop-i
-decreases-loop-i l = l.used - l.i

@@ -18,6 +18,3 @@ loop-i-preserved c =
           c.use_flag.result (omega arith) loop.invariant.1
           (c.use_flag.ensures ∙ rw c.commit_tag_at.ensures),
     )
-
-pub returns : goal.returns
-returns c = record { size = c.loop-i.invariant.0; each = λ k h. c.loop-i.invariant.1 k (omega arith) }

@@ -41,11 +41,8 @@ loop-i-preserved c =
           (omega (arith, c.ranges.low)) (omega arith) c.cell_at.ensures right c.note.ensures loop.invariant.4,
     )
 
-pub returns : goal.returns
-returns c =
+pub returns-clause-newest : goal.returns-clause-newest
+returns-clause-newest c =
     let a = c.args in
-    let loop = c.loop-i in (record {
-      numbers = record { each = λ k h. loop.invariant.3 k (omega arith) };
-      newest = newest_end (rows_in 8 a.entries a.commits.now) a.low a.used a.rows.now loop.newest loop.i c.loop-i-test.false
-          loop.invariant.4;
-    })
+    let loop = c.loop-i in
+    newest_end (rows_in 8 a.entries a.commits.now) a.low a.used a.rows.now loop.newest loop.i c.loop-i-test.false loop.invariant.4

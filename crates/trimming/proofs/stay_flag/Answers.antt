@@ -24,8 +24,8 @@ returns-then-n-newest c = λ cs numbers newest.
       lt-ltb (get_or a.numbers.now a.i 0) (get_or a.newest.now cell.result 0) (omega (arith, c.if-n-newest.true)),
     )
 
-pub returns-then-cell-lt1024 : goal.returns-then-cell-lt1024
-returns-then-cell-lt1024 c = λ cs numbers newest.
+pub returns-else-n-newest : goal.returns-else-n-newest
+returns-else-n-newest c = λ cs numbers newest.
     let a = c.args in
     let cell = c.cell_at-cell in
     rw (
@@ -46,8 +46,8 @@ returns-then-any_later c = λ cs numbers newest.
       sym (c.any_later.ensures cs numbers) ∙ c.if-any_later.true,
     )
 
-pub returns : goal.returns
-returns c = λ cs numbers newest.
+pub returns-else-any_later : goal.returns-else-any_later
+returns-else-any_later c = λ cs numbers newest.
     let a = c.args in
     let cell = c.cell_at-cell in
     rw (

@@ -1,5 +1,4 @@
 -- The flags below i are right.
-use mathlib.Core.Path.{refl}
 use lib.ListN.{length-set}
 use native.Mathlib.Omega.{arith}
 use Rattle.std.specs.Prelude.{if◌then◌else◌}
@@ -7,10 +6,6 @@ use Rattle.spec.specs.Rows.{row_at, rows_in}
 use Rattle.spec.specs.Trim.{stays}
 use Rattle.removal.proofs.Moving.{stored_more}
 use Rattle.trimming.proofs.stay_flags.Goals as goal
-
-pub note_rows-numbers-requires : goal.note_rows-numbers-requires
-note_rows-numbers-requires c =
-    (record { used_in_bounds = c.requires.used_in_bounds; used_bound = c.requires.used_bound; entries_in_bounds = c.requires.entries_in_bounds; entries_bound = c.requires.entries_bound; newest_value = refl })
 
 pub loop-i-preserved : goal.loop-i-preserved
 loop-i-preserved c =
@@ -23,6 +18,3 @@ loop-i-preserved c =
           (omega arith) loop.invariant.1
           (c.stay_flag.ensures cs c.note_rows-numbers.ensures.numbers c.note_rows-numbers.ensures.newest),
     )
-
-pub returns : goal.returns
-returns c = record { size = c.loop-i.invariant.0; each = λ k h. c.loop-i.invariant.1 k (omega arith) }

@@ -1,5 +1,5 @@
 -- The flags below i are right.
-use Prim.Native.Nat.{ℕ, ◌-◌, ◌<◌}
+use Prim.Native.Nat.{ℕ, ◌<◌}
 use mathlib.Core.Path.{◌≡◌}
 use lib.ListN.{length, get_or}
 use Rattle.std.specs.Prelude.{if◌then◌else◌}
@@ -11,6 +11,3 @@ abbrev pub invariant-loop-i : goal.invariant-loop-i
 invariant-loop-i l =
     (length l.flags ≡ 1024) × ((k : ℕ) → k < l.i → get_or l.flags k 0 ≡ (if stays l.low (rows_in 24 l.used l.rows) (rows_in 8 l.entries l.commits)
     (row_at 24 k l.rows) then 1 else 0))
-
-abbrev pub decreases-loop-i : goal.decreases-loop-i
-decreases-loop-i l = l.used - l.i

@@ -1,34 +1,24 @@
 -- `waiting::clear_all`: the bit is cleared in the lists passed.
 -- Assumes nothing.
-use mathlib.Core.Path.{◌≡◌, refl, ◌∙◌}
 use Prim.Native.Nat.{ℕ}
-use native.Mathlib.Omega.{arith}
-use native.Mathlib.Numerals.{add-one}
+use mathlib.Core.Path.{◌≡◌}
 use borrow.Author.Rules.{rules}
-use lib.ListN.{length}
+use native.Mathlib.Omega.{arith}
+use lib.ListN.{length, get_or}
+use Rattle.std.proofs.lemmas.List.Edits.{map_over_more}
+use Rattle.std.proofs.lemmas.Grind.{common_steps}
 use Rattle.spec.specs.Set.{clients, remove}
 use Rattle.spec.specs.Image.{cleared}
-use Rattle.waiting.proofs.Loops.{map_to, map_to_step, map_to_all}
 use Rattle.waiting.proofs.clear_all.Goals as goal
 
-pub loop-i-init : goal.loop-i-init
-unfolding map_to
-loop-i-init c = (search rules, refl)
-
-pub loop-i-preserved : goal.loop-i-preserved
-loop-i-preserved c =
-    let i = c.loop-i.i in
-    let l = c.args.lists in
-    let k = c.args.client in
-    let n : length l ≡ clients = search rules in (
-      search rules,
-      rw (add-one i, ← map_to_step (λ (w : ℕ). remove w k) 0 i l (omega arith), c.without.ensures, c.loop-i.invariant.1),
-    )
+pub loop-list-preserved : goal.loop-list-preserved
+loop-list-preserved c =
+    let loop = c.loop-list in
+    let n : length c.args.lists ≡ clients = search rules in
+    rw c.without.ensures
+    (map_over_more (λ (w : ℕ). remove w c.args.client) c.args.lists loop.list-items loop.list-index (get_or loop.list-items loop.list-index 0)
+    (omega arith) loop.invariant (grind (arith, common_steps)))
 
 pub returns : goal.returns
 unfolding cleared
-returns c =
-    let l = c.args.lists in
-    let n : length l ≡ clients = search rules in
-    let e : c.loop-i.i ≡ length l = omega arith in
-    rw e at c.loop-i.invariant.1 ∙ map_to_all _ l
+returns c = grind (arith, common_steps, c.loop-list.invariant)

@@ -1,13 +1,11 @@
 -- `waiting::clear_all`: the bit is cleared in the lists passed.
 -- Assumes nothing.
 use mathlib.Core.Path.{◌≡◌}
-use Prim.Native.Nat.{ℕ, ◌≤◌, ◌-◌}
-use Rattle.spec.specs.Set.{clients, remove}
-use Rattle.waiting.proofs.Loops.{map_to}
+use mathlib.Core.List.{◌++◌, map}
+use Prim.Native.Nat.{ℕ}
+use lib.ListN.{take, drop}
+use Rattle.spec.specs.Set.{remove}
 use Rattle.waiting.proofs.clear_all.Given as goal
 
-abbrev pub invariant-loop-i : goal.invariant-loop-i
-invariant-loop-i l = (l.i ≤ clients) × (l.out ≡ map_to (λ (w : ℕ). remove w l.client) l.i l.initial.out)
-
-abbrev pub decreases-loop-i : goal.decreases-loop-i
-decreases-loop-i l = clients - l.i
+abbrev pub invariant-loop-list : goal.invariant-loop-list
+invariant-loop-list l = l.list-items ≡ map (λ (w : ℕ). remove w l.client) (take l.list-index l.initial.list-items) ++ drop l.list-index l.initial.list-items

@@ -1,5 +1,0 @@
--- By whether the tag is the last one.
-use Rattle.orderly.proofs.entry_again.Goals as goal
-
-pub returns-then-tag-last : goal.returns-then-tag-last
-returns-then-tag-last c = rw c.if-tag-last.true c.requires.value

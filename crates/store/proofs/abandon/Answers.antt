@@ -1,9 +1,0 @@
--- `store::abandon`: the columns taken out, lent, and put back.
--- Assumes nothing.
-use mathlib.Core.Path.{sym}
-use Rattle.spec.specs.Calls.{abandon}
-use Rattle.store.proofs.ByValue.{by_value}
-use Rattle.store.proofs.abandon.Goals as goal
-
-pub returns : goal.returns
-returns c = λ v. by_value (abandon c.args.client) _ _ v c.head_of.ensures (sym c.joined-next.ensures) (c.abandon-done.ensures v)

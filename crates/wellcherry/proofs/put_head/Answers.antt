@@ -1,9 +1,0 @@
--- `wellcherry::put_head`: the eight numbers, one behind the other.
--- Assumes nothing.
-use mathlib.Core.Path.{refl}
-use Rattle.wellcherry.specs.Inner.{head_in}
-use Rattle.wellcherry.proofs.put_head.Goals as goal
-
-pub returns : goal.returns
-unfolding head_in
-returns c = refl
