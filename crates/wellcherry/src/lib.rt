@@ -9,7 +9,7 @@ ghost use Rattle.spec.specs.Calls.{abandon, begin, free, read, trim, write};
 ghost use Rattle.spec.specs.Steps.{advance};
 ghost use Rattle.spec.specs.Bytes.{memory_of};
 ghost use Rattle.spec.specs.Told.{told_of, figure_told, begin_told, read_told, advance_told, TellsSetUp};
-ghost use Rattle.wellcherry.specs.Inner.{head_in, store_from, TellsOn, TellsWith};
+ghost use Rattle.wellcherry.specs.Inner.{head_in, store_from, store_found, store_left, TellsOn, TellsWith};
 
 use record::{Head, Record};
 use spec::{CLIENTS, Set, VERSIONS};
@@ -72,9 +72,7 @@ pub extern "C" fn wellcherry_call_set_up(
     limit: u32,
 ) -> FigureGiven
     ensures { TellsSetUp rows.old commits.old first limit
-        (memory_of
-        (store_from head.new stage.new number.new snapshot.new request.new commit.new request_waits.new commit_waits.new)
-        rows.new commits.new versions.new)
+        (memory_of (store_left head stage number snapshot request commit request_waits commit_waits) rows.new commits.new versions.new)
         (told_of result.refusal result.figure 0) }
 {
     let mut r = Record {
@@ -108,8 +106,8 @@ pub extern "C" fn wellcherry_call_begin(
     client: u32,
 ) -> BeginGiven
     ensures { TellsOn begin_told (begin client)
-        (store_from head.old stage.old number.old snapshot.old request.old commit.old request_waits.old commit_waits.old) rows.now commits.now
-        (store_from head.new stage.new number.new snapshot.new request.new commit.new request_waits.new commit_waits.new) rows.now commits.now
+        (store_found head stage number snapshot request commit request_waits commit_waits) rows.now commits.now
+        (store_left head stage number snapshot request commit request_waits commit_waits) rows.now commits.now
         (told_of result.refusal result.number result.snapshot) }
 {
     let mut r = Record {
@@ -199,8 +197,8 @@ pub extern "C" fn wellcherry_call_advance(
     client: u32,
 ) -> AdvanceGiven
     ensures { TellsOn advance_told (advance client)
-        (store_from head.old stage.old number.old snapshot.old request.old commit.old request_waits.old commit_waits.old) rows.old commits.old
-        (store_from head.new stage.new number.new snapshot.new request.new commit.new request_waits.new commit_waits.new) rows.new commits.new
+        (store_found head stage number snapshot request commit request_waits commit_waits) rows.old commits.old
+        (store_left head stage number snapshot request commit request_waits commit_waits) rows.new commits.new
         (told_of result.refusal result.progress result.number) }
 {
     let mut r = Record {
@@ -234,8 +232,8 @@ pub extern "C" fn wellcherry_call_abandon(
     client: u32,
 ) -> FigureGiven
     ensures { TellsOn figure_told (abandon client)
-        (store_from head.old stage.old number.old snapshot.old request.old commit.old request_waits.old commit_waits.old) rows.old commits.now
-        (store_from head.new stage.new number.new snapshot.new request.new commit.new request_waits.new commit_waits.new) rows.new commits.now
+        (store_found head stage number snapshot request commit request_waits commit_waits) rows.old commits.now
+        (store_left head stage number snapshot request commit request_waits commit_waits) rows.new commits.now
         (told_of result.refusal result.figure 0) }
 {
     let mut r = Record {
