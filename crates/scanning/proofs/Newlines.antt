@@ -1,69 +1,98 @@
--- The search for a newline, and the first of the places that the library finds.
+-- The search for a newline goes byte by byte: one turn of it.
 -- Assumes nothing.
-use Prim.Native.Nat.{ℕ, zero, suc, ◌+◌, ◌-◌, ◌≤◌, ◌<◌}
-use mathlib.Core.Path.{◌≡◌, refl}
-use mathlib.Core.Bool.{Bool, true, false}
-use mathlib.Core.List.{List, [], ◌∷◌}
+use Prim.Native.Nat.{ℕ, zero, suc, ◌+◌, ◌*◌, ◌-◌, ◌≤◌, ◌<◌}
+use mathlib.Core.Path.{◌≡◌, ◌∙◌, sym}
+use mathlib.Core.List.{List, []}
 use native.Mathlib.Numerals.{add-one}
 use native.Mathlib.Omega.{arith}
+use borrow.Author.Tests.{eq-eqb, ne_eqb}
 use lib.Dec.{eqb}
+use lib.Lanes.{chunk}
+use mathlib.Core.Bool.{Bool, true, false}
 use lib.ListN.{length, get_or, take, drop, length-drop, drop_of_length-le}
-use lib.Seq.{drop-cons}
-use Rattle.std.specs.Prelude.{if◌then◌else◌}
-use Rattle.std.proofs.lemmas.List.{take_rest}
-use Rattle.memchr.specs.Find.{is_byte, places, places_from}
-use Rattle.scanning.specs.Inner.{newline_from}
+use lib.Seq.{get_or-drop, drop-cons, drop-drop}
+use Rattle.std.specs.Prelude.{Option, Some, None}
+use Rattle.std.specs.List.{AllWithin, HoldsAt, list_any}
+use Rattle.std.specs.Option.{MatchOption, unwrap_or}
+use Rattle.std.specs.Simd.{first_chunks}
+use Rattle.std.proofs.lemmas.List.Folds.{list_any_at}
+use Rattle.std.proofs.lemmas.Simd.{length-chunk, get_or-chunk}
+use Rattle.scanning.specs.Inner.{newline_from, NoNewline}
 
-pub newline_end : (s : List ℕ) (i : ℕ) → length s ≤ i → newline_from i (drop i s) ≡ i
-unfolding newline_from
-newline_end s i h = rw (drop_of_length-le s h)
+module _ (s : List ℕ) (i : ℕ) where
+  pub newline_end : length s ≤ i → newline_from i (drop i s) ≡ i
+  unfolding newline_from
+  newline_end h = rw (drop_of_length-le s h)
 
--- the search answers a place at or behind its start, and not behind the end
-pub newline_within : (i : ℕ) (s : List ℕ) → (i ≤ newline_from i s) × (newline_from i s ≤ i + length s)
-unfolding newline_from
-newline_within i [] = (omega arith, omega arith)
-newline_within i (b ∷ s) = go (eqb b 10) (newline_within (i + 1) s)
-  where
-    go : (x : Bool) → ((i + 1 ≤ newline_from (i + 1) s) × (newline_from (i + 1) s ≤ i + 1 + length s))
-        → (i ≤ (if x then i else newline_from (i + 1) s)) × ((if x then i else newline_from (i + 1) s) ≤ i + length (b ∷ s))
-    go true h = (omega arith, omega arith)
-    go false h = (omega arith, omega arith)
+  pub newline_found : i < length s → get_or s i 0 ≡ 10 → newline_from i (drop i s) ≡ i
+  unfolding newline_from
+  newline_found h e = rw (drop-cons s i 0 h, eq-eqb (get_or s i 0) 10 e)
 
--- the first place of a list, in bytes that begin at from, or their end
-abbrev pub first_of : ℕ → ℕ → List ℕ → ℕ
-first_of from end [] = from + end
-first_of from end (p ∷ ps) = from + p
+  pub newline_more : i < length s → (get_or s i 0 ≡ 10 → ⊥) → newline_from i (drop i s) ≡ newline_from (i + 1) (drop (i + 1) s)
+  unfolding newline_from
+  newline_more h n = rw (drop-cons s i 0 h, ne_eqb (get_or s i 0) 10 n, add-one i)
 
-pub newline_first : (s : List ℕ) (from i n : ℕ) → i + n ≡ length s
-    → newline_from (from + i) (drop i s) ≡ first_of from (length s) (places_from (is_byte 10) s i n)
-unfolding newline_from places_from
-newline_first s from i zero e =
-    let z : i ≡ length s = omega arith in
-    let h : length s ≤ i = omega arith in
-    rw (drop_of_length-le s h, z)
-newline_first s from i (suc n) e =
-    let h : i < length s = omega arith in
-    rw (drop-cons s i 0 h) (go (eqb (get_or s i 0) 10) (newline_first s from (i + 1) n (omega arith)))
-  where
-    go : (x : Bool) → newline_from (from + (i + 1)) (drop (i + 1) s) ≡ first_of from (length s) (places_from (is_byte 10) s (i + 1) n)
-        → (if x then from + i else newline_from (from + i + 1) (drop (suc i) s))
-        ≡ first_of from (length s) (if x then i ∷ places_from (is_byte 10) s (i + 1) n else places_from (is_byte 10) s (i + 1) n)
-    go true f = refl
-    go false f =
-        let a : from + (i + 1) ≡ from + i + 1 = omega arith in
-        rw (← add-one i, ← a) f
+-- none of n bytes is a newline
+pub newlines_past : (s : List ℕ) (i n : ℕ) → i + n ≤ length s → ((k : ℕ) → i ≤ k → k < i + n → get_or s k 0 ≡ 10 → ⊥) → NoNewline s i (i + n)
+newlines_past s i zero h f = let z : i + 0 ≡ i = omega arith in rw z
+newlines_past s i (suc n) h f =
+    let z : i + 1 + n ≡ i + suc n = omega arith in
+    newline_more s i (omega arith) (f i (omega arith) (omega arith))
+    ∙ rw z at (newlines_past s (i + 1) n (omega arith) (λ k l u. f k (omega arith) (omega arith)))
 
--- ps is what the library finds in the bytes of s from a place on
-pub newline_found : (s : List ℕ) (from : ℕ) (ps : List ℕ) → from ≤ length s
-    → ps ≡ places (is_byte 10) (take (length s - from) (drop from s))
-    → newline_from from (drop from s) ≡ first_of from (length s - from) ps
-newline_found s from ps h e =
-    let l : length (drop from s) ≡ length s - from = length-drop from s in
-    let z : from + 0 ≡ from = omega arith in
-    let n : length s - from - 0 ≡ length s - from = omega arith in
-    let a : 0 + (length s - from) ≡ length (drop from s) = omega arith in
-    rw (e, take_rest s from, l, n) (rw (z, l) at (newline_first (drop from s) from 0 (length s - from) a))
+-- what stands at a place of the bytes from i on
+at_rest : (s : List ℕ) (i k : ℕ) → i ≤ k → get_or (drop i s) (k - i) 0 ≡ get_or s k 0
+at_rest s i k h = let e : i + (k - i) ≡ k = omega arith in get_or-drop i s (k - i) 0 ∙ rw e
 
-pub within_rest : (s : List ℕ) (from : ℕ) → from ≤ length s
-    → (from ≤ newline_from from (drop from s)) × (newline_from from (drop from s) ≤ length s)
-within_rest s from h = let w = newline_within from (drop from s) in (w.0, omega (arith, w.1, length-drop from s))
+-- the search by the first newline of the bytes from i on, or by their number
+pub newline_at : (s : List ℕ) (i : ℕ) (r : Option ℕ) → i ≤ length s
+    → MatchOption r (AllWithin (λ b. b ≡ 10 → ⊥) (drop i s) 0 (length (drop i s)))
+    (λ j. (j < length (drop i s)) × HoldsAt (λ b. b ≡ 10) (drop i s) j × AllWithin (λ b. b ≡ 10 → ⊥) (drop i s) 0 j)
+    → i + unwrap_or r (length (drop i s)) ≡ newline_from i (drop i s)
+newline_at s i None h f =
+    let l : length (drop i s) ≡ length s - i = length-drop i s in
+    let e : i + length (drop i s) ≡ length s = omega (arith, l) in
+    sym (newlines_past s i (length (drop i s)) (omega arith)
+    (λ k g u n. f (k - i) 0 (omega arith) (omega arith) (at_rest s i k g ∙ n))
+    ∙ newline_end s (i + length (drop i s)) (omega arith))
+newline_at s i (Some j) h f =
+    let l : length (drop i s) ≡ length s - i = length-drop i s in
+    let e : i + j - i ≡ j = omega arith in
+    sym (newlines_past s i j (omega (arith, l, f.0))
+    (λ k g u n. f.2 (k - i) 0 (omega arith) (omega arith) (at_rest s i k g ∙ n))
+    ∙ newline_found s (i + j) (omega (arith, l, f.0)) (sym (get_or-drop i s j 0) ∙ f.1 0))
+
+-- whether a newline is among some bytes, as the library asks
+abbrev pub has_newline : List ℕ → Bool
+has_newline = list_any (λ b. eqb b 10)
+
+-- an eight without a newline
+none_in_eight : (s : List ℕ) (i : ℕ) → i + 8 ≤ length s → has_newline (take 8 (drop i s)) ≡ false → NoNewline s i (i + 8)
+none_in_eight s i h f =
+    newlines_past s i 8 h (λ k g u n.
+    let e : i + (k - i) ≡ k = omega arith in
+    let l : k - i < length (chunk i 8 s) = simp (length-chunk i 8 s h) (omega arith) in
+    let t : get_or (chunk i 8 s) (k - i) 0 ≡ 10 = get_or-chunk i 8 s (k - i) 0 (omega arith) ∙ rw e n in
+    let y : has_newline (chunk i 8 s) ≡ true = list_any_at (λ b. eqb b 10) (chunk i 8 s) (k - i) 0 l (eq-eqb _ 10 t) in
+    cc)
+
+-- eights without a newline
+pub eights_past : (s : List ℕ) (i m e : ℕ) → i + 8 * m ≤ length s → e ≤ m
+    → AllWithin (λ c. has_newline c ≡ false) (first_chunks 8 m (drop i s)) 0 e → NoNewline s i (i + 8 * e)
+eights_past s i m zero h g f = let z : i + 8 * 0 ≡ i = omega arith in rw z
+eights_past s i zero (suc e) h g f = elim g [ ]
+eights_past s i (suc m) (suc e) h g f =
+    let z : i + 8 + 8 * e ≡ i + 8 * suc e = omega arith in
+    let a : AllWithin (λ c. has_newline c ≡ false) (first_chunks 8 m (drop 8 (drop i s))) 0 e = (λ k x l u. f (suc k) x (omega arith) (omega arith)) in
+    none_in_eight s i (omega arith) (f 0 [] (omega arith) (omega arith))
+    ∙ rw z at (eights_past s (i + 8) m e (omega arith) (omega arith)
+    (rw (drop-drop 8 i s) at a))
+
+-- the search by the first of the eights that has one, or by their number
+pub eights_found : (s : List ℕ) (i m : ℕ) (r : Option ℕ) → i + 8 * m ≤ length s
+    → MatchOption r (AllWithin (λ c. has_newline c ≡ false) (first_chunks 8 m (drop i s)) 0 m)
+    (λ j. (j < m) × HoldsAt (λ c. has_newline c ≡ true) (first_chunks 8 m (drop i s)) j
+    × AllWithin (λ c. has_newline c ≡ false) (first_chunks 8 m (drop i s)) 0 j)
+    → NoNewline s i (i + 8 * unwrap_or r m)
+eights_found s i m None h f = eights_past s i m m h (omega arith) f
+eights_found s i m (Some j) h f = eights_past s i m j h (omega (arith, f.0)) f.2

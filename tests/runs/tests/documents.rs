@@ -28,6 +28,14 @@ fn crates() -> BTreeSet<String> {
     uses().into_keys().collect()
 }
 
+/// README: the store stands on the standard library alone.
+#[test]
+fn the_crates_use_one_another_alone() {
+    let uses = uses();
+    let others: BTreeSet<_> = uses.values().flatten().filter(|name| !uses.contains_key(*name)).collect();
+    assert!(uses.len() >= 40 && others.is_empty(), "{others:?}");
+}
+
 /// What stands between backquotes, line by line.
 fn quoted(page: &str) -> Vec<Vec<String>> {
     page.lines().map(|line| line.split('`').skip(1).step_by(2).map(str::to_string).collect()).collect()

@@ -1,25 +1,15 @@
--- The first place that the library finds, or the end. Assumes nothing.
-use mathlib.Core.Path.{◌∙◌, sym}
-use native.Mathlib.Omega.{arith}
-use Rattle.scanning.proofs.Newlines.{newline_found, within_rest}
+-- The first newline behind the eights, or the end. Assumes nothing.
+use Rattle.std.proofs.Common.{rules, tests, ◌≡◌, ◌-◌, ◌∙◌, sym, length, take, drop}
+use Rattle.std.proofs.lemmas.List.{take_rest}
+use Rattle.std.proofs.lemmas.Iterator.{IsFirst-from_position, YieldsList-from_slice}
+use Rattle.scanning.proofs.Newlines.{newline_at}
 use Rattle.scanning.proofs.newline.Goals as goal
 
-pub overflow_add-result : goal.overflow_add-result
-overflow_add-result c =
-    let a = c.args in
-    omega (
-      arith,
-      within_rest a.s.now a.from c.requires,
-      newline_found a.s.now a.from _ c.requires (sym c.in-Some.ensures.steps ∙ c.memchr_iter.ensures.value),
-    )
-
-pub returns-in-Some : goal.returns-in-Some
-returns-in-Some c =
-    let a = c.args in
-    let e = newline_found a.s.now a.from _ c.requires (sym c.in-Some.ensures.steps ∙ c.memchr_iter.ensures.value) in
-    record { value = sym e; lower_bound = rw e at (within_rest a.s.now a.from c.requires) }
-
-pub returns-in-None-clause-value : goal.returns-in-None-clause-value
-returns-in-None-clause-value c =
-    let a = c.args in
-    omega (arith, newline_found a.s.now a.from _ c.requires (sym c.in-None.ensures.steps.0 ∙ c.memchr_iter.ensures.value))
+pub returns-clause-value : goal.returns-clause-value
+returns-clause-value c =
+    let s = c.args.s.now in
+    let at = c.pass_eights-at.result in
+    let t : take (length s - at) (drop at s) ≡ drop at s = take_rest s at in
+    let f = IsFirst-from_position _ _ _ (λ b. b ≡ 10) (λ b. b ≡ 10 → ⊥) c.position-found.ensures.ran
+    (YieldsList-from_slice (drop at s) (c.iter.ensures.rest ∙ t)) (λ x q k. search (rules, tests)) (λ x q k. search (rules, tests)) in
+    rw (c.unwrap_or.ensures, t) (newline_at s at c.position-found.result c.pass_eights-at.ensures.lower_bound.1 f ∙ sym c.pass_eights-at.ensures.no_newline)
