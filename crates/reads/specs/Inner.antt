@@ -6,7 +6,7 @@ use Rattle.spec.specs.declared.Store.{Store}
 use Rattle.spec.specs.declared.Refusal.{Refusal}
 use Rattle.spec.specs.Look.{Lookup, versions_after}
 use Rattle.spec.specs.Answers.{Answer, Answered, Refused, code, Reading}
-use Rattle.spec.specs.Image.{clients_of}
+use Rattle.spec.specs.Image.{Clients, clients_of}
 use Rattle.spec.specs.Calls.{free, reading, read}
 use Rattle.spec.specs.Bytes.{After, after_of, memory_of, on_bytes, Performs}
 use Rattle.record.specs.declared.Head.{Head}
@@ -26,12 +26,16 @@ abbrev pub OfCell : ℕ → Result Lookup Refusal → Type 0
 OfCell x (Ok l) = x < cells
 OfCell x (Err r) = Unit {0}
 
+-- the columns as Read is lent them: stages, numbers of transactions and snapshots to be read, and no others, whatever these hold
+abbrev pub read_columns : List ℕ → List ℕ → List ℕ → List ℕ → List ℕ → List ℕ → List ℕ → Clients
+read_columns g n s q m b w = clients_of g n s q m b w
+
 -- a Read of client k, of those at these stages, with these numbers of transactions and snapshots, has found the version table v and left v': so with all
 -- that the code is not lent
 abbrev pub Reads : ℕ → ℕ → Head → List ℕ → List ℕ → List ℕ → List ℕ → List ℕ → List ℕ → List ℕ → Answer Reading → Type 0
 Reads k x h g n s d c v v' a =
     (q m b w : List ℕ)
-    → Performs (read k x) (memory_of (whole h (clients_of g n s q m b w)) d c v) (memory_of (whole h (clients_of g n s q m b w)) d c v') a
+    → Performs (read k x) (memory_of (whole h (read_columns g n s q m b w)) d c v) (memory_of (whole h (read_columns g n s q m b w)) d c v') a
 
 -- a Free of a store with these stages: so with all that the code is not lent
 abbrev pub Frees : Head → List ℕ → List ℕ → List ℕ → Answer ℕ → Type 0

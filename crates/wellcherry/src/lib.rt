@@ -9,6 +9,8 @@ ghost use Rattle.spec.specs.Calls.{abandon, begin, free, read, trim, write};
 ghost use Rattle.spec.specs.Steps.{advance};
 ghost use Rattle.spec.specs.Bytes.{memory_of};
 ghost use Rattle.spec.specs.Told.{told_of, figure_told, begin_told, read_told, advance_told, TellsSetUp};
+ghost use Rattle.record.specs.Inner.{whole};
+ghost use Rattle.reads.specs.Inner.{read_columns};
 ghost use Rattle.wellcherry.specs.Inner.{head_in, store_from, store_found, store_left, TellsOn, TellsWith};
 
 use record::{Head, Record};
@@ -140,8 +142,8 @@ pub extern "C" fn wellcherry_call_read(
     cell: u32,
 ) -> ReadGiven
     ensures { (q m b w : List ℕ) → TellsWith read_told (read client cell)
-        (store_from head.now stage.now number.now snapshot.now q m b w) rows.now commits.now versions.old
-        (store_from head.now stage.now number.now snapshot.now q m b w) rows.now commits.now versions.new
+        (whole (head_in head.now) (read_columns stage.now number.now snapshot.now q m b w)) rows.now commits.now versions.old
+        (whole (head_in head.now) (read_columns stage.now number.now snapshot.now q m b w)) rows.now commits.now versions.new
         (told_of result.refusal result.found result.row) }
 {
     let answer = reads::read(
