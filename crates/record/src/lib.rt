@@ -159,14 +159,27 @@ impl Head {
         ensures suits { Suits self stage.now d c result }
         ensures room { result ≡ true → HasRoom self d c }
     {
-        let wide = self.rows as usize;
-        self.rows >= 1
-            && self.rows <= 1024
-            && d == DATA_ROW * wide
-            && c == COMMIT_ROW * wide
-            && self.used <= self.rows
-            && self.entries <= self.rows
-            && stages_known(stage)
+        let rows = self.rows;
+        if rows < 1 {
+            return false;
+        }
+        if 1024 < rows {
+            return false;
+        }
+        let wide = rows as usize;
+        if d != DATA_ROW * wide {
+            return false;
+        }
+        if c != COMMIT_ROW * wide {
+            return false;
+        }
+        if rows < self.used {
+            return false;
+        }
+        if rows < self.entries {
+            return false;
+        }
+        stages_known(stage)
     }
 }
 
