@@ -1,4 +1,4 @@
--- The search for a newline goes byte by byte: one turn of it.
+-- The search for a newline: one byte of it, the eights that are passed, and the first place that the library finds.
 -- Assumes nothing.
 use Prim.Native.Nat.{ℕ, zero, suc, ◌+◌, ◌*◌, ◌-◌, ◌≤◌, ◌<◌}
 use mathlib.Core.Path.{◌≡◌, ◌∙◌, sym}
