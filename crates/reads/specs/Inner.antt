@@ -26,16 +26,14 @@ abbrev pub OfCell : ℕ → Result Lookup Refusal → Type 0
 OfCell x (Ok l) = x < cells
 OfCell x (Err r) = Unit {0}
 
--- the columns as Read is lent them: stages, numbers of transactions and snapshots to be read, and no others, whatever these hold
-abbrev pub read_columns : List ℕ → List ℕ → List ℕ → List ℕ → List ℕ → List ℕ → List ℕ → Clients
-read_columns g n s q m b w = clients_of g n s q m b w
+-- P holds of the columns as Read is lent them: of these stages, numbers of transactions and snapshots, and of any others, which it does not see
+abbrev pub read_columns : (Clients → Type 0) → List ℕ → List ℕ → List ℕ → Type 0
+read_columns P g n s = (q m b w : List ℕ) → P (clients_of g n s q m b w)
 
--- a Read of client k, of those at these stages, with these numbers of transactions and snapshots, has found the version table v and left v': so with all
--- that the code is not lent
+-- a Read of client k, of those at these stages, with these numbers of transactions and snapshots, has found the version table v and left v'
 abbrev pub Reads : ℕ → ℕ → Head → List ℕ → List ℕ → List ℕ → List ℕ → List ℕ → List ℕ → List ℕ → Answer Reading → Type 0
 Reads k x h g n s d c v v' a =
-    (q m b w : List ℕ)
-    → Performs (read k x) (memory_of (whole h (read_columns g n s q m b w)) d c v) (memory_of (whole h (read_columns g n s q m b w)) d c v') a
+    read_columns (λ l. Performs (read k x) (memory_of (whole h l) d c v) (memory_of (whole h l) d c v') a) g n s
 
 -- a Free of a store with these stages: so with all that the code is not lent
 abbrev pub Frees : Head → List ℕ → List ℕ → List ℕ → Answer ℕ → Type 0

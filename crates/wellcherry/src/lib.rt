@@ -141,10 +141,10 @@ pub extern "C" fn wellcherry_call_read(
     client: u32,
     cell: u32,
 ) -> ReadGiven
-    ensures { (q m b w : List ℕ) → TellsWith read_told (read client cell)
-        (whole (head_in head.now) (read_columns stage.now number.now snapshot.now q m b w)) rows.now commits.now versions.old
-        (whole (head_in head.now) (read_columns stage.now number.now snapshot.now q m b w)) rows.now commits.now versions.new
-        (told_of result.refusal result.found result.row) }
+    ensures { read_columns (λ l. TellsWith read_told (read client cell)
+        (whole (head_in head.now) l) rows.now commits.now versions.old
+        (whole (head_in head.now) l) rows.now commits.now versions.new
+        (told_of result.refusal result.found result.row)) stage.now number.now snapshot.now }
 {
     let answer = reads::read(
         head_in(head),
